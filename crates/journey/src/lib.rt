@@ -1,0 +1,2 @@
+//! What a journey is, over any timetable.
+pub mod laws;
