@@ -1,0 +1,16 @@
+pub mod Walks
+pub mod Good
+pub mod Cuts
+pub mod Contained
+pub mod Laid
+pub mod Held
+pub mod Finds
+pub mod Exact
+pub mod Sorted
+pub mod Tables
+pub mod Lawfuls
+pub mod Prints
+pub mod Clocks
+pub mod Same
+pub mod Trims
+pub mod Opened

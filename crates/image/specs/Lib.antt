@@ -1,0 +1,10 @@
+pub mod Parts
+pub mod Layout
+pub mod Limits
+pub mod Images
+pub mod Records
+pub mod Checks
+pub mod Faults
+pub mod Meanings
+pub mod Names
+pub mod Openings
