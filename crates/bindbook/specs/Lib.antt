@@ -1,0 +1,4 @@
+pub mod Blame
+pub mod Drafts
+pub mod Endings
+pub mod Excess

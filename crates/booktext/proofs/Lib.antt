@@ -1,0 +1,5 @@
+pub mod Names
+pub mod Quaylines
+pub mod Sailinglines
+pub mod Sayings
+pub mod Steps
