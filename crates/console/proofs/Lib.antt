@@ -1,0 +1,4 @@
+pub mod Spans
+pub mod Soonest
+pub mod Ways
+pub mod Answered

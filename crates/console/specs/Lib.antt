@@ -1,0 +1,4 @@
+pub mod Earliest
+pub mod Contents
+pub mod Answers
+pub mod Told
