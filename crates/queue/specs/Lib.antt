@@ -1,0 +1,4 @@
+pub mod Lines
+pub mod Firsts
+pub mod Tables
+pub mod Laws

@@ -1,0 +1,11 @@
+pub mod Best
+pub mod Steps
+pub mod Links
+pub mod Views
+pub mod Places
+pub mod Relaxed
+pub mod Opens
+pub mod Turned
+pub mod Begun
+pub mod Chain
+pub mod Told

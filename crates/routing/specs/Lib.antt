@@ -1,0 +1,10 @@
+pub mod Blank
+pub mod Labels
+pub mod Trips
+pub mod Limits
+pub mod Invariants
+pub mod Origins
+pub mod Relaxing
+pub mod Turns
+pub mod Walk
+pub mod Route
