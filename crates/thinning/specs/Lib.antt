@@ -1,0 +1,4 @@
+pub mod Margins
+pub mod Dominance
+pub mod Thinning
+pub mod Weights
