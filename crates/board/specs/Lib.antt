@@ -1,0 +1,10 @@
+pub mod History
+pub mod Force
+pub mod Answers
+pub mod States
+pub mod Effects
+pub mod Kept
+pub mod Boards
+pub mod Replays
+pub mod Plain
+pub mod Decided

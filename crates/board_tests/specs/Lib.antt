@@ -1,0 +1,2 @@
+pub mod Forty
+pub mod Without
