@@ -1,0 +1,4 @@
+pub mod Counted
+pub mod Lettering
+pub mod Sayings
+pub mod Spelling
