@@ -6,7 +6,7 @@ pub returns : goal.returns
 returns c =
     let line = c.args.line.now in
     let at = c.args.at in
-    let e = c.spaced-numeral.ensures in
+    let e = c.spaced_numeral.ensures in
     record {
       value = e;
       exact = λ f. (λ h. number_tells line at f (sym e ∙ h), λ h. e ∙ number_told line at f h);

@@ -7,7 +7,7 @@ pub returns : goal.returns
 returns c =
     let line = c.args.line.now in
     let at = c.args.at in
-    let e = c.spaced-time.ensures in
+    let e = c.spaced_time.ensures in
     record {
       value = e;
       exact = λ f. (λ h. time_tells line at f (sym e ∙ h), λ h. e ∙ time_told line at f h);

@@ -6,7 +6,7 @@ pub returns : goal.returns
 returns c =
     let line = c.args.line.now in
     let at = c.args.at in
-    let e = c.spaced-wide.ensures in
+    let e = c.spaced_wide.ensures in
     record {
       value = e;
       exact = λ f. (λ h. wide-tells line at f (sym e ∙ h), λ h. e ∙ wide-told line at f h);

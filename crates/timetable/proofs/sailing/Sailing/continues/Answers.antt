@@ -6,6 +6,6 @@ use Rattle.timetable.proofs.sailing.Sailing.continues.Goals as goal
 
 pub returns : goal.returns
 returns c = record {
-  value = c.sails-on.ensures;
-  means = Decides-at _ _ c.sails-on.ensures (continues-means c.args.self c.args.before);
+  value = c.sails_on.ensures;
+  means = Decides-at _ _ c.sails_on.ensures (continues-means c.args.self c.args.before);
 }

@@ -8,5 +8,5 @@ unfolding next
 returns c =
     let s = c.args.self in
     let u = c.args.minute in
-    let v : s.dep + day * ((c.saturating-sub.result + 1439) / day) ≡ next s u = ap (λ n. s.dep + day * ((n + 1439) / day)) c.saturating-sub.ensures in
+    let v : s.dep + day * ((c.saturating_sub.result + 1439) / day) ≡ next s u = ap (λ n. s.dep + day * ((n + 1439) / day)) c.saturating_sub.ensures in
     record { value = v; least = subst (λ m. Next s u m) (sym v) (next-is s u); laws = departures s }
