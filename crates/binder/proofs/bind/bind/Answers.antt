@@ -9,11 +9,11 @@ returns c =
     let quays = c.args.quays.now in
     let xs = c.args.sailings.now in
     let d = c.args.image.now in
-    let e = c.bind-checked.ensures in
+    let e = c.bind_checked.ensures in
     record {
       value = e.value;
       buffer = e.buffer;
       first = λ f. subst (λ r. Faults r quays xs f) (sym e.value) (first-bound quays xs (length d) f);
       accepts = subst (λ r. Accepts r quays xs (length d)) (sym e.value) (accepts quays xs (length d));
-      whole = λ n h. held quays xs d c.bind-checked.new.image (length d) n (sym e.value ∙ h) (e.buffer ∙ ap (λ r. cond (is_ok r) (over (book_bytes quays xs) d) d) h) (small-take c.bind-checked.new.image n (λ i. let f = c.type-inv.image i in omega (arith, f)));
+      whole = λ n h. held quays xs d c.bind_checked.new.image (length d) n (sym e.value ∙ h) (e.buffer ∙ ap (λ r. cond (is_ok r) (over (book_bytes quays xs) d) d) h) (small-take c.bind_checked.new.image n (λ i. let f = c.type_inv.image i in omega (arith, f)));
     }

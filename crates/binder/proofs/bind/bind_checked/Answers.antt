@@ -10,12 +10,12 @@ returns-in-Err c = record {
 
 pub returns-then-image-len : goal.returns-then-image-len
 returns-then-image-len c = record {
-  value = sym (bound-short c.args.quays.now c.args.sailings.now (length c.args.image.now) (sym c.check-content.ensures ∙ c.in-default.is) (omega arith));
+  value = sym (bound-short c.args.quays.now c.args.sailings.now (length c.args.image.now) (sym c.check_content.ensures ∙ c.in_default.is) (omega arith));
   buffer = refl;
 }
 
 pub returns : goal.returns
 returns c = record {
-  value = sym (bound-whole c.args.quays.now c.args.sailings.now (length c.args.image.now) (sym c.check-content.ensures ∙ c.in-default.is) (omega arith));
-  buffer = c.write-book.ensures;
+  value = sym (bound-whole c.args.quays.now c.args.sailings.now (length c.args.image.now) (sym c.check_content.ensures ∙ c.in_default.is) (omega arith));
+  buffer = c.write_book.ensures;
 }

@@ -17,7 +17,7 @@ loop-row-preserved c =
     let d = c.args.image.now in
     let row = c.loop-row.row in
     c.put.ensures
-    ∙ ap (λ r. written (16 + 16 * row) r c.loop-row.image) c.quay-record.ensures
+    ∙ ap (λ r. written (16 + 16 * row) r c.loop-row.image) c.quay_record.ensures
     ∙ ap (written (16 + 16 * row) (quay_bytes (get_or xs row no_quay))) c.loop-row.invariant
     ∙ row_written quay_bytes xs row 16 no_quay d (all-sized quay_bytes 16 (λ x. refl) xs) c.loop-row-test.true (omega (arith, c.requires))
 

@@ -17,7 +17,7 @@ loop-row-preserved c =
     let d = c.args.image.now in
     let row = c.loop-row.row in
     c.put.ensures
-    ∙ ap (λ r. written (c.args.start + 16 * row) r c.loop-row.image) c.sailing-record.ensures
+    ∙ ap (λ r. written (c.args.start + 16 * row) r c.loop-row.image) c.sailing_record.ensures
     ∙ ap (written (c.args.start + 16 * row) (sailing_bytes (get_or xs row no_sailing))) c.loop-row.invariant
     ∙ row_written sailing_bytes xs row c.args.start no_sailing d (all-sized sailing_bytes 16 (λ x. refl) xs) c.loop-row-test.true (omega (arith, c.requires))
 

@@ -5,13 +5,13 @@ use Rattle.image.proofs.Walks.{up_to-more, up_to-fault}
 use Rattle.binder.specs.Content.{letter}
 use Rattle.binder.proofs.content.check_letters.Goals as goal
 
-pub returns-in-err-check-letter : goal.returns-in-err-check-letter
-returns-in-err-check-letter c =
+pub returns-in_err-check_letter : goal.returns-in_err-check_letter
+returns-in_err-check_letter c =
     let p = err_from_is_err_and c.from-residual.result c.from-residual.ensures.1 in
-    rw (p.1, p.2) (sym (up_to-fault (letter c.args.q c.args.row) c.loop-i.i 10 _ c.loop-i-test.true c.loop-i.invariant (sym c.in-err-check-letter.ensures)))
+    rw (p.1, p.2) (sym (up_to-fault (letter c.args.q c.args.row) c.loop-i.i 10 _ c.loop-i-test.true c.loop-i.invariant (sym c.in_err-check_letter.ensures)))
 
 pub loop-i-preserved : goal.loop-i-preserved
-loop-i-preserved c = up_to-more (letter c.args.q c.args.row) c.loop-i.i c.loop-i.invariant (sym c.in-ok-check-letter.ensures)
+loop-i-preserved c = up_to-more (letter c.args.q c.args.row) c.loop-i.i c.loop-i.invariant (sym c.in_ok-check_letter.ensures)
 
 pub returns : goal.returns
 returns c =

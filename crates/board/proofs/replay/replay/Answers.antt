@@ -24,7 +24,7 @@ loop-call-preserved g c =
     let left : Lent = lent (g.L.Line.keys c.apply.new.line) c.apply.new.labels c.apply.new.legs in
     subst₂ (λ (cs : List Call) (xs : List Answer). Follows t cs xs first left (state_of g.B.Book.meaning c.apply.new.board))
     (sym (take_more calls i _ c.loop-call-test.true))
-    (sym c.in-ok-push.ensures.items)
+    (sym c.in_ok-push.ensures.items)
     (follows_more t (take i calls) _ first _ left _ _ _ _ c.loop-call.invariant c.apply.ensures.law)
 
 pub returns : goal.returns

@@ -6,7 +6,7 @@ pub returns : goal.returns
 returns c =
     let at = c.args.at in
     let rest : List ℕ = drop at c.args.bytes.now in
-    let n = c.letters-left-n.result in
+    let n = c.letters_left-n.result in
     let whole : n - 0 ≡ n = omega arith in
     let ten : at + 10 - at ≡ 10 = omega arith in
-    ap (λ k. take k (take (at + 10 - at) rest)) (whole ∙ c.letters-left-n.ensures.value) ∙ ap (λ k. trimmed (take k rest)) ten
+    ap (λ k. take k (take (at + 10 - at) rest)) (whole ∙ c.letters_left-n.ensures.value) ∙ ap (λ k. trimmed (take k rest)) ten

@@ -8,5 +8,5 @@ pub returns : goal.returns
 returns c =
     let word = c.args.word.now in
     let start = take (length word) c.args.line.now in
-    let r = c.starts-with.result in
-    same_from_decides r (bytes_eq start word) (Decides-like r (λ e. sym e) (λ e. sym e) (slice_eq-Decides Decides-eqb word start r c.starts-with.ensures.value)) (bytes_eq-Decides start word)
+    let r = c.starts_with.result in
+    same_from_decides r (bytes_eq start word) (Decides-like r (λ e. sym e) (λ e. sym e) (slice_eq-Decides Decides-eqb word start r c.starts_with.ensures.value)) (bytes_eq-Decides start word)

@@ -3,8 +3,8 @@ use Rattle.booktext.specs.Lines.{line_of, Says}
 use Rattle.booktext.proofs.Sayings.{says}
 use Rattle.booktext.proofs.line.read_line.Goals as goal
 
-pub returns-then-is-empty : goal.returns-then-is-empty
-returns-then-is-empty c =
+pub returns-then-is_empty : goal.returns-then-is_empty
+returns-then-is_empty c =
     let line = c.args.line.now in
     let e : _ ≡ line_of line = search rules in
     record { value = e; exact = subst (λ r. Says line r) (sym e) (says line) }
@@ -12,5 +12,5 @@ returns-then-is-empty c =
 pub returns : goal.returns
 returns c =
     let line = c.args.line.now in
-    let e : c.worded-line.result ≡ line_of line = search rules in
+    let e : c.worded_line.result ≡ line_of line = search rules in
     record { value = e; exact = subst (λ r. Says line r) (sym e) (says line) }

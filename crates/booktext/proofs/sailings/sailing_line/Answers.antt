@@ -4,4 +4,4 @@ use Rattle.booktext.proofs.sailings.sailing_line.Goals as goal
 
 pub returns : goal.returns
 returns c =
-    simp (sym c.in-ok-trip.ensures, sym c.in-ok-quays.ensures, sym c.in-ok-times.ensures, eq-eqb _ _ c.if-times-line.false)
+    simp (sym c.in_ok-trip.ensures, sym c.in_ok-quays.ensures, sym c.in_ok-times.ensures, eq-eqb _ _ c.if-times-line.false)

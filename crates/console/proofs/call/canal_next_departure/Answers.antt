@@ -11,7 +11,7 @@ returns c =
     let q = c.args.quay in
     let u = c.args.minute in
     let given = c.args.answer.now in
-    let small : Small bs = λ i. let f = c.type-inv.image i in omega (arith, f) in
+    let small : Small bs = λ i. let f = c.type_inv.image i in omega (arith, f) in
     record {
       answers = answered bs q u given c.tell.new.answer c.tell.result small (image_check bs) (image_tells bs small) (image_first bs) (c.tell.ensures.left, c.tell.ensures.code);
       alone = one_answer bs (image_check bs) (image_tells bs small) (image_first bs) q u given;

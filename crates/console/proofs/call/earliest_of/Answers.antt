@@ -18,7 +18,7 @@ returns-in-Ok-Printed c =
     let is : image_check bs ≡ Ok Printed = cc in
     let held = checked.exact.printed (cc) in
     let same : printed cs ≡ printed bs = c.open.ensures.held held ∙ sym (printed-same held.quays held.sailings bs held.laid) in
-    let e = c.earliest-in.ensures in
+    let e = c.earliest_in.ensures in
     record {
       value = e ∙ ap (λ t. told_in t q u room) same ∙ ap (λ r. told_of r bs q u room) (sym is);
       fits = λ m w. told-room (printed cs) q u room m (sym e ∙ w);
@@ -35,7 +35,7 @@ returns-in-Ok-ClockFace c =
     let is : image_check bs ≡ Ok ClockFace = cc in
     let held = checked.exact.clock_face (cc) in
     let same : clock_face cs ≡ clock_face bs = c.open-in-Ok-ClockFace.ensures.held held ∙ sym (clock_same held.quays held.series bs held.laid) in
-    let e = c.earliest-in-in-Ok-ClockFace.ensures in
+    let e = c.earliest_in-in-Ok-ClockFace.ensures in
     record {
       value = e ∙ ap (λ t. told_in t q u room) same ∙ ap (λ r. told_of r bs q u room) (sym is);
       fits = λ m w. told-room (clock_face cs) q u room m (sym e ∙ w);

@@ -10,6 +10,6 @@ returns c =
     let e = c.judge.ensures in
     record {
       value = e;
-      exact = subst (λ r. Tells bs r) (sym e) (image_tells bs (λ i. let f = c.type-inv.bytes i in omega (arith, f)));
+      exact = subst (λ r. Tells bs r) (sym e) (image_tells bs (λ i. let f = c.type_inv.bytes i in omega (arith, f)));
       first = λ f. subst (λ r. Told r (Wrong bs) f) (sym e) (image_first bs f);
     }

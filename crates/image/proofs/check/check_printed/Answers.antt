@@ -8,9 +8,9 @@ use Rattle.image.proofs.check.check_printed.Goals as goal
 pub returns : goal.returns
 returns c =
     let bs = c.args.bytes.now in
-    let e = c.judge-printed.ensures in
+    let e = c.judge_printed.ensures in
     record {
       value = e;
-      exact = subst (λ r. Decides (is_ok r) (PrintedOf bs)) (sym e) (printed-exact bs (λ i. let f = c.type-inv.bytes i in omega (arith, f)));
+      exact = subst (λ r. Decides (is_ok r) (PrintedOf bs)) (sym e) (printed-exact bs (λ i. let f = c.type_inv.bytes i in omega (arith, f)));
       first = λ f. subst (λ r. Told r (PrintedWrong bs) f) (sym e) (printed-first bs f);
     }

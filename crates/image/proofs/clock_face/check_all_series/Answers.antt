@@ -5,19 +5,19 @@ use Rattle.image.proofs.Walks.{up_to-more, up_to-fault}
 use Rattle.image.proofs.Good.{series-room, series-inside, places-more}
 use Rattle.image.proofs.clock_face.check_all_series.Goals as goal
 
-pub number-at-requires : goal.number-at-requires
-number-at-requires c = omega (arith, series-inside c.args.bytes.now c.args.quays c.loop-row.row (sym c.in-ok-check-series.ensures))
+pub number_at-requires : goal.number_at-requires
+number_at-requires c = omega (arith, series-inside c.args.bytes.now c.args.quays c.loop-row.row (sym c.in_ok-check_series.ensures))
 
-pub returns-in-err-check-series : goal.returns-in-err-check-series
-returns-in-err-check-series c =
+pub returns-in_err-check_series : goal.returns-in_err-check_series
+returns-in_err-check_series c =
     let p = err_from_is_err_and c.from-residual.result c.from-residual.ensures.1 in
-    rw (p.1, p.2) (sym (up_to-fault (series c.args.bytes.now c.args.quays) c.loop-row.row c.args.entries _ c.loop-row-test.true c.loop-row.invariant.0 (sym c.in-err-check-series.ensures)))
+    rw (p.1, p.2) (sym (up_to-fault (series c.args.bytes.now c.args.quays) c.loop-row.row c.args.entries _ c.loop-row-test.true c.loop-row.invariant.0 (sym c.in_err-check_series.ensures)))
 
 pub loop-row-preserved : goal.loop-row-preserved
 loop-row-preserved c =
-    let ok = sym c.in-ok-check-series.ensures in
+    let ok = sym c.in_ok-check_series.ensures in
     let room = series-room c.args.bytes.now c.args.quays c.loop-row.row ok in (
       up_to-more (series c.args.bytes.now c.args.quays) c.loop-row.row c.loop-row.invariant.0 ok,
-      places-more c.args.bytes.now c.args.quays c.loop-row.row _ _ c.loop-row.invariant.1 c.number-at.ensures,
-      omega (arith, room, c.loop-row.invariant.1, c.number-at.ensures),
+      places-more c.args.bytes.now c.args.quays c.loop-row.row _ _ c.loop-row.invariant.1 c.number_at.ensures,
+      omega (arith, room, c.loop-row.invariant.1, c.number_at.ensures),
     )

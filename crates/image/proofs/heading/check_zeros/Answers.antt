@@ -4,10 +4,10 @@ use Rattle.image.specs.Checks.{zero_byte}
 use Rattle.image.proofs.Walks.{up_to-more, up_to-fault}
 use Rattle.image.proofs.heading.check_zeros.Goals as goal
 
-pub returns-in-err-require : goal.returns-in-err-require
-returns-in-err-require c =
+pub returns-in_err-require : goal.returns-in_err-require
+returns-in_err-require c =
     let p = err_from_is_err_and c.from-residual.result c.from-residual.ensures.1 in
-    rw (p.1, p.2) (sym (up_to-fault (zero_byte c.args.bytes.now) c.loop-i.i 8 _ c.loop-i-test.true c.loop-i.invariant (sym c.in-err-require.ensures)))
+    rw (p.1, p.2) (sym (up_to-fault (zero_byte c.args.bytes.now) c.loop-i.i 8 _ c.loop-i-test.true c.loop-i.invariant (sym c.in_err-require.ensures)))
 
 pub loop-i-preserved : goal.loop-i-preserved
-loop-i-preserved c = up_to-more (zero_byte c.args.bytes.now) c.loop-i.i c.loop-i.invariant (sym c.in-ok-require.ensures)
+loop-i-preserved c = up_to-more (zero_byte c.args.bytes.now) c.loop-i.i c.loop-i.invariant (sym c.in_ok-require.ensures)

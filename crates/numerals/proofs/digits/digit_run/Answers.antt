@@ -6,8 +6,8 @@ use Rattle.numerals.proofs.digits.digit_run.Goals as goal
 pub loop-count-preserved : goal.loop-count-preserved
 loop-count-preserved c = grind (arith, prefix_len-drop_yes is_digit c.args.bytes.now c.loop-count.count 0)
 
-pub returns-else-is-digit : goal.returns-else-is-digit
-returns-else-is-digit c = grind (arith, prefix_len-drop_no is_digit c.args.bytes.now c.loop-count.count 0)
+pub returns-else-is_digit : goal.returns-else-is_digit
+returns-else-is_digit c = grind (arith, prefix_len-drop_no is_digit c.args.bytes.now c.loop-count.count 0)
 
 pub returns-after-loop-count : goal.returns-after-loop-count
 returns-after-loop-count c = grind (arith, prefix_len-drop_all is_digit c.args.bytes.now c.loop-count.count)

@@ -7,12 +7,12 @@ use Rattle.plantext.proofs.read.query_line.Goals as goal
 
 pub returns : goal.returns
 returns c =
-    c.query-in.ensures
-    ∙ (ap (λ r. and_then r query_in) c.in-ok-read-command.ensures.value
-    ∙ line_is c.args.line.now c.in-ok-begins.field-0 c.in-ok-begins.ensures)
+    c.query_in.ensures
+    ∙ (ap (λ r. and_then r query_in) c.in_ok-read_command.ensures.value
+    ∙ line_is c.args.line.now c.in_ok-begins.field-0 c.in_ok-begins.ensures)
 
-pub returns-in-err-read-command : goal.returns-in-err-read-command
-returns-in-err-read-command c =
-    let p = err_from_is_err_and c.from-residual-in-err-read-command.result c.from-residual-in-err-read-command.ensures.1 in
+pub returns-in_err-read_command : goal.returns-in_err-read_command
+returns-in_err-read_command c =
+    let p = err_from_is_err_and c.from-residual-in_err-read_command.result c.from-residual-in_err-read_command.ensures.1 in
     rw (p.1, p.2)
-    (ap (λ r. and_then r query_in) c.in-err-read-command.ensures.value ∙ line_is c.args.line.now c.in-ok-begins.field-0 c.in-ok-begins.ensures)
+    (ap (λ r. and_then r query_in) c.in_err-read_command.ensures.value ∙ line_is c.args.line.now c.in_ok-begins.field-0 c.in_ok-begins.ensures)

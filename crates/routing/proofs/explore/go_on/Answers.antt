@@ -6,8 +6,8 @@ use Rattle.routing.proofs.Opens.{opened-better}
 use Rattle.routing.proofs.Turned.{span-order, span-end, whole, origin_quay}
 use Rattle.routing.proofs.explore.go_on.Goals as goal
 
-pub follow-span-requires : goal.follow-span-requires
-follow-span-requires g c =
+pub follow_span-requires : goal.follow_span-requires
+follow_span-requires g c =
     let T = g.B.Book.meaning c.args.book.now in
     let v = c.args.ride.sailing.to in
     let (is, covers) = c.requires.opened v c.in-Some.span c.in-Some.is in
@@ -28,6 +28,6 @@ returns-in-Some g c =
     let T = g.B.Book.meaning c.args.book.now in
     let (is, covers) = c.requires.opened c.args.ride.sailing.to c.in-Some.span c.in-Some.is in
     record {
-      through = whole T c.args.trip (Via c.args.place c.args.ride c.args.change) (view c.args.labels.now) (view c.follow-span.new.labels) (g.L.Line.keys c.follow-span.new.line) c.in-Some.span is c.follow-span.ensures;
-      opened = opened-better T c.args.trip (view c.args.labels.now) (view c.follow-span.new.labels) c.args.spans.now c.args.ride.arrives c.follow-span.ensures.better c.requires.opened;
+      through = whole T c.args.trip (Via c.args.place c.args.ride c.args.change) (view c.args.labels.now) (view c.follow_span.new.labels) (g.L.Line.keys c.follow_span.new.line) c.in-Some.span is c.follow_span.ensures;
+      opened = opened-better T c.args.trip (view c.args.labels.now) (view c.follow_span.new.labels) c.args.spans.now c.args.ride.arrives c.follow_span.ensures.better c.requires.opened;
     }

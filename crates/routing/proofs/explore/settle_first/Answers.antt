@@ -4,11 +4,11 @@ use Rattle.routing.proofs.Turned.{none_first, found, first-inside, settle_first_
 use Rattle.routing.proofs.Views.{view-length, view_settle, waiting_in, settles_as}
 use Rattle.routing.proofs.explore.settle_first.Goals as goal
 
-pub returns-in-default : goal.returns-in-default
-returns-in-default g c = none_first (view c.args.labels.now) (g.L.Line.keys c.args.line.now) c.requires c.in-default.ensures.0
+pub returns-in_default : goal.returns-in_default
+returns-in_default g c = none_first (view c.args.labels.now) (g.L.Line.keys c.args.line.now) c.requires c.in_default.ensures.0
 
-pub slice-copy-out·ride-in : goal.slice-copy-out·ride-in
-slice-copy-out·ride-in g c =
+pub slice-copy-out·ride_in : goal.slice-copy-out·ride_in
+slice-copy-out·ride_in g c =
     omega (arith, first-inside (view c.args.labels.now) (g.L.Line.keys c.args.line.now) c.in-Some.place _ c.requires c.in-Some.ensures.0, view-length c.args.labels.now)
 
 pub bounds-labels-place : goal.bounds-labels-place
@@ -22,8 +22,8 @@ returns g c =
     let p = c.in-Some.place in
     let f = found (view labels) ks p _ c.requires c.in-Some.ensures.0 in
     let inside : p < length labels = omega (arith, first-inside (view labels) ks p _ c.requires c.in-Some.ensures.0, view-length labels) in
-    let same = c.ride-in-ride.ensures ∙ waiting_in labels p _ f.0 inside f.1 in
-    let at : look (view labels) p ≡ Waiting c.ride-in-ride.result = f.1 ∙ ap {B = Status} Waiting (sym same) in
-    settles_as (view labels) p c.ride-in-ride.result _ _ _
-    (view_settle labels p _ c.ride-in-ride.result inside at _ refl refl)
-    (settle_first_lem (view labels) ks p _ c.requires c.in-Some.ensures.0 c.ride-in-ride.result at _ c.in-Some.ensures.1)
+    let same = c.ride_in-ride.ensures ∙ waiting_in labels p _ f.0 inside f.1 in
+    let at : look (view labels) p ≡ Waiting c.ride_in-ride.result = f.1 ∙ ap {B = Status} Waiting (sym same) in
+    settles_as (view labels) p c.ride_in-ride.result _ _ _
+    (view_settle labels p _ c.ride_in-ride.result inside at _ refl refl)
+    (settle_first_lem (view labels) ks p _ c.requires c.in-Some.ensures.0 c.ride_in-ride.result at _ c.in-Some.ensures.1)

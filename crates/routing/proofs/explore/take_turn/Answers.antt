@@ -3,28 +3,28 @@ use Rattle.routing.specs.Labels.{view}
 use Rattle.routing.proofs.Turned.{none-waits, opened_after, arrived, onward, gone}
 use Rattle.routing.proofs.explore.take_turn.Goals as goal
 
-pub returns-in-default : goal.returns-in-default
-returns-in-default g c = none-waits (g.B.Book.meaning c.args.book.now) c.args.trip (view c.args.labels.now) (g.L.Line.keys c.args.line.now) c.args.spans.now c.requires c.in-default.ensures
+pub returns-in_default : goal.returns-in_default
+returns-in_default g c = none-waits (g.B.Book.meaning c.args.book.now) c.args.trip (view c.args.labels.now) (g.L.Line.keys c.args.line.now) c.args.spans.now c.requires c.in_default.ensures
 
 pub returns-then-ride-trip : goal.returns-then-ride-trip
 returns-then-ride-trip g c =
     arrived (g.B.Book.meaning c.args.book.now) c.args.trip (view c.args.labels.now) (g.L.Line.keys c.args.line.now) c.args.spans.now c.requires
-    c.in-Some.place c.in-Some.ride (view c.settle-first.new.labels) (g.L.Line.keys c.settle-first.new.line) c.in-Some.ensures c.if-ride-trip.true
+    c.in-Some.place c.in-Some.ride (view c.settle_first.new.labels) (g.L.Line.keys c.settle_first.new.line) c.in-Some.ensures c.if-ride-trip.true
 
-pub go-on-requires : goal.go-on-requires
-go-on-requires g c = record {
+pub go_on-requires : goal.go_on-requires
+go_on-requires g c = record {
   ready = onward (g.B.Book.meaning c.args.book.now) c.args.trip (view c.args.labels.now) (g.L.Line.keys c.args.line.now) c.args.spans.now c.requires
-      c.in-Some.place c.in-Some.ride (view c.settle-first.new.labels) (g.L.Line.keys c.settle-first.new.line) c.in-Some.ensures _ (omega (arith, c.change-at.ensures, c.from.ensures));
+      c.in-Some.place c.in-Some.ride (view c.settle_first.new.labels) (g.L.Line.keys c.settle_first.new.line) c.in-Some.ensures _ (omega (arith, c.change_at.ensures, c.from.ensures));
   many = c.requires.many;
   opened = opened_after (g.B.Book.meaning c.args.book.now) c.args.trip (view c.args.labels.now) (g.L.Line.keys c.args.line.now) c.args.spans.now c.requires
-      c.in-Some.place c.in-Some.ride (view c.settle-first.new.labels) (g.L.Line.keys c.settle-first.new.line) c.in-Some.ensures;
+      c.in-Some.place c.in-Some.ride (view c.settle_first.new.labels) (g.L.Line.keys c.settle_first.new.line) c.in-Some.ensures;
 }
 
 pub returns : goal.returns
 returns g c =
     gone (g.B.Book.meaning c.args.book.now) c.args.trip (view c.args.labels.now) (g.L.Line.keys c.args.line.now) c.args.spans.now c.requires
-    c.in-Some.place c.in-Some.ride (view c.settle-first.new.labels) (g.L.Line.keys c.settle-first.new.line) c.in-Some.ensures _
-    (omega (arith, c.change-at.ensures, c.from.ensures)) c.if-ride-trip.false _ _ _ (omega arith) c.go-on.ensures.opened c.go-on.ensures.through
+    c.in-Some.place c.in-Some.ride (view c.settle_first.new.labels) (g.L.Line.keys c.settle_first.new.line) c.in-Some.ensures _
+    (omega (arith, c.change_at.ensures, c.from.ensures)) c.if-ride-trip.false _ _ _ (omega arith) c.go_on.ensures.opened c.go_on.ensures.through
 
 pub overflow-add-change : goal.overflow-add-change
 overflow-add-change g c = omega (arith, c.requires.fair.extra, c.from.ensures)

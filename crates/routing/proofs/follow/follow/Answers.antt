@@ -7,8 +7,8 @@ use Rattle.routing.proofs.Opens.{skipped, waiting-is, not-waiting, continues-fro
 use Rattle.routing.proofs.Relaxed.{small, stepped}
 use Rattle.routing.proofs.follow.follow.Goals as goal
 
-pub ride-from-requires : goal.ride-from-requires
-ride-from-requires g c =
+pub ride_from-requires : goal.ride_from-requires
+ride_from-requires g c =
     let T = g.B.Book.meaning c.args.book.now in
     let at = waiting-is (look (view c.args.labels.now) c.args.place) c.in-Some.waiting c.in-Some.ensures in
     small T c.args.trip (view c.args.labels.now) (g.L.Line.keys c.args.line.now) (Via c.args.k c.args.ridden c.args.change) c.requires.ready c.args.place c.in-Some.waiting.sailing
@@ -20,9 +20,9 @@ returns-then-continues g c =
     let at = waiting-is (look (view c.args.labels.now) c.args.place) c.in-Some.waiting c.in-Some.ensures in
     stepped T c.args.trip (view c.args.labels.now) (g.L.Line.keys c.args.line.now) (Via c.args.k c.args.ridden c.args.change) c.requires.ready c.args.place c.in-Some.waiting.sailing
     (c.requires.ready.inv.made c.args.place c.in-Some.waiting (ap ride_of at)).stands
-    (continues-from c.in-Some.waiting.sailing c.args.ridden.sailing (sym c.if-continues.ensures.value)) (view c.renew-place.new.labels) (g.L.Line.keys c.renew-place.new.line)
-    (c.renew-place.ensures.after ∙ ap (λ n. set (view c.args.labels.now) c.args.place (reach (look (view c.args.labels.now) c.args.place) n)) c.ride-from.ensures)
-    c.renew-place.ensures.linked
+    (continues-from c.in-Some.waiting.sailing c.args.ridden.sailing (sym c.if-continues.ensures.value)) (view c.renew_place.new.labels) (g.L.Line.keys c.renew_place.new.line)
+    (c.renew_place.ensures.after ∙ ap (λ n. set (view c.args.labels.now) c.args.place (reach (look (view c.args.labels.now) c.args.place) n)) c.ride_from.ensures)
+    c.renew_place.ensures.linked
 
 pub returns-else-continues : goal.returns-else-continues
 returns-else-continues g c =
@@ -33,8 +33,8 @@ returns-else-continues g c =
     let same = same-sailing T c.args.place x c.in-Some.waiting.sailing e (c.requires.ready.inv.made c.args.place c.in-Some.waiting (ap ride_of at)).stands in
     differ (continues c.in-Some.waiting.sailing c.args.ridden.sailing) (ap (λ z. continues z c.args.ridden.sailing) (sym same) ∙ yes) c.if-continues.ensures.value)
 
-pub returns-in-default : goal.returns-in-default
-returns-in-default g c =
+pub returns-in_default : goal.returns-in_default
+returns-in_default g c =
     let T = g.B.Book.meaning c.args.book.now in
     skipped T c.args.trip (view c.args.labels.now) (g.L.Line.keys c.args.line.now) c.args.k c.args.change c.args.ridden c.requires.ready c.requires.late c.args.place
-    (λ x old w e yes. not-waiting (look (view c.args.labels.now) c.args.place) old c.in-default.ensures w)
+    (λ x old w e yes. not-waiting (look (view c.args.labels.now) c.args.place) old c.in_default.ensures w)

@@ -3,14 +3,14 @@ use Rattle.routing.proofs.Places.{stays, renewed}
 use Rattle.routing.proofs.Views.{view-length}
 use Rattle.routing.proofs.follow.renew_place.Goals as goal
 
-pub slice-copy-out·is-sooner : goal.slice-copy-out·is-sooner
-slice-copy-out·is-sooner g c = omega (arith, c.requires.inside, view-length c.args.labels.now)
+pub slice-copy-out·is_sooner : goal.slice-copy-out·is_sooner
+slice-copy-out·is_sooner g c = omega (arith, c.requires.inside, view-length c.args.labels.now)
 
 pub bounds-labels-place : goal.bounds-labels-place
 bounds-labels-place g c = omega (arith, c.requires.inside, view-length c.args.labels.now)
 
-pub returns-else-is-sooner : goal.returns-else-is-sooner
-returns-else-is-sooner g c = stays c.args.labels.now c.args.place c.args.ride (g.L.Line.keys c.args.line.now) c.requires.inside c.requires.linked _ c.if-is-sooner.ensures
+pub returns-else-is_sooner : goal.returns-else-is_sooner
+returns-else-is_sooner g c = stays c.args.labels.now c.args.place c.args.ride (g.L.Line.keys c.args.line.now) c.requires.inside c.requires.linked _ c.if-is_sooner.ensures
 
-pub returns-then-is-sooner : goal.returns-then-is-sooner
-returns-then-is-sooner g c = renewed c.args.labels.now c.args.place c.args.ride (g.L.Line.keys c.args.line.now) c.requires.inside c.requires.linked _ c.waiting-label.result c.if-is-sooner.ensures c.waiting-label.ensures _ c.set.ensures.after
+pub returns-then-is_sooner : goal.returns-then-is_sooner
+returns-then-is_sooner g c = renewed c.args.labels.now c.args.place c.args.ride (g.L.Line.keys c.args.line.now) c.requires.inside c.requires.linked _ c.waiting_label.result c.if-is_sooner.ensures c.waiting_label.ensures _ c.set.ensures.after

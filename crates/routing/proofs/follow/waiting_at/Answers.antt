@@ -9,8 +9,8 @@ bounds-labels-place c = omega (arith, c.requires, view-length c.args.labels.now)
 
 pub returns-in-Waiting : goal.returns-in-Waiting
 returns-in-Waiting c =
-    ap {B = Option Ride} Some c.ride-in.ensures
+    ap {B = Option Ride} Some c.ride_in.ensures
     ∙ sym (ap waiting_of (view-at c.args.labels.now c.args.place _ (omega (arith, c.requires, view-length c.args.labels.now))) ∙ waits_in _ c.in-Waiting.is)
 
-pub returns-in-default : goal.returns-in-default
-returns-in-default c = sym (ap waiting_of (view-at c.args.labels.now c.args.place _ (omega (arith, c.requires, view-length c.args.labels.now))) ∙ not_in _ c.in-default.not-Waiting)
+pub returns-in_default : goal.returns-in_default
+returns-in_default c = sym (ap waiting_of (view-at c.args.labels.now c.args.place _ (omega (arith, c.requires, view-length c.args.labels.now))) ∙ not_in _ c.in_default.not-Waiting)

@@ -19,12 +19,12 @@ bounds-legs-cur c =
     let w = c.back.invariant.0 T q arrival in
     omega (arith, made_pos T q (view c.args.labels.now) c.back.at c.back.cur w.made, w.inside, c.requires.room, c.back.auto.legs)
 
-pub returns-in-default : goal.returns-in-default
-returns-in-default c =
+pub returns-in_default : goal.returns-in_default
+returns-in_default c =
     let (T, q, arrival) = c.requires.known in
     let room : c.args.ride.depth ≤ length c.back.legs = omega (arith, c.requires.room, c.back.auto.legs) in
     record {
-      written = λ T₂ q₂ arrival₂. walk_ends T₂ q₂ (view c.args.labels.now) c.args.last c.args.ride arrival₂ c.back.legs c.back.at c.back.cur room (c.back.invariant.0 T₂ q₂ arrival₂) c.in-default.is;
+      written = λ T₂ q₂ arrival₂. walk_ends T₂ q₂ (view c.args.labels.now) c.args.last c.args.ride arrival₂ c.back.legs c.back.at c.back.cur room (c.back.invariant.0 T₂ q₂ arrival₂) c.in_default.is;
       rest = walk_rest T q (view c.args.labels.now) c.args.last c.args.ride arrival c.back.legs c.back.at c.back.cur room (c.back.invariant.0 T q arrival) ∙ c.back.invariant.1;
     }
 
@@ -42,9 +42,9 @@ back-smaller c =
     let ls = view c.args.labels.now in
     let room : c.args.ride.depth ≤ length c.back.legs = omega (arith, c.requires.room, c.back.auto.legs) in
     let (rs, is) = walk_has T q ls c.args.last c.args.ride arrival c.back.legs c.back.at c.back.cur room (c.back.invariant.0 T q arrival) c.in-Some.before c.in-Some.is in
-    let here = c.ride-in-cur.ensures ∙ settled_in c.args.labels.now c.in-Some.before _ rs (omega (arith, settled-inside ls c.in-Some.before rs is, view-length c.args.labels.now)) is in
-    let at : look ls c.in-Some.before ≡ Settled c.ride-in-cur.result = is ∙ ap {B = Status} Settled (sym here) in
-    walk_less T q ls c.args.last c.args.ride arrival c.back.legs c.back.at c.back.cur room (c.back.invariant.0 T q arrival) c.in-Some.before c.ride-in-cur.result c.in-Some.is at
+    let here = c.ride_in-cur.ensures ∙ settled_in c.args.labels.now c.in-Some.before _ rs (omega (arith, settled-inside ls c.in-Some.before rs is, view-length c.args.labels.now)) is in
+    let at : look ls c.in-Some.before ≡ Settled c.ride_in-cur.result = is ∙ ap {B = Status} Settled (sym here) in
+    walk_less T q ls c.args.last c.args.ride arrival c.back.legs c.back.at c.back.cur room (c.back.invariant.0 T q arrival) c.in-Some.before c.ride_in-cur.result c.in-Some.is at
 
 pub back-preserved : goal.back-preserved
 back-preserved c =
@@ -52,8 +52,8 @@ back-preserved c =
     let ls = view c.args.labels.now in
     let room : c.args.ride.depth ≤ length c.back.legs = omega (arith, c.requires.room, c.back.auto.legs) in
     let (rs, is) = walk_has T q ls c.args.last c.args.ride arrival c.back.legs c.back.at c.back.cur room (c.back.invariant.0 T q arrival) c.in-Some.before c.in-Some.is in
-    let here = c.ride-in-cur.ensures ∙ settled_in c.args.labels.now c.in-Some.before _ rs (omega (arith, settled-inside ls c.in-Some.before rs is, view-length c.args.labels.now)) is in
-    let at : look ls c.in-Some.before ≡ Settled c.ride-in-cur.result = is ∙ ap {B = Status} Settled (sym here) in (
-      (λ T₂ q₂ arrival₂. walk_goes T₂ q₂ ls c.args.last c.args.ride arrival₂ c.back.legs c.back.at c.back.cur room (c.back.invariant.0 T₂ q₂ arrival₂) c.in-Some.before c.ride-in-cur.result c.in-Some.is at),
+    let here = c.ride_in-cur.ensures ∙ settled_in c.args.labels.now c.in-Some.before _ rs (omega (arith, settled-inside ls c.in-Some.before rs is, view-length c.args.labels.now)) is in
+    let at : look ls c.in-Some.before ≡ Settled c.ride_in-cur.result = is ∙ ap {B = Status} Settled (sym here) in (
+      (λ T₂ q₂ arrival₂. walk_goes T₂ q₂ ls c.args.last c.args.ride arrival₂ c.back.legs c.back.at c.back.cur room (c.back.invariant.0 T₂ q₂ arrival₂) c.in-Some.before c.ride_in-cur.result c.in-Some.is at),
       walk_rest T q ls c.args.last c.args.ride arrival c.back.legs c.back.at c.back.cur room (c.back.invariant.0 T q arrival) ∙ c.back.invariant.1,
     )

@@ -11,31 +11,31 @@ use Rattle.routing.proofs.relax.open_quay.Goals as goal
 
 pub bounds-spans-quay : goal.bounds-spans-quay
 bounds-spans-quay g c =
-    omega (arith, origin_quay (g.B.Book.meaning c.args.book.now) c.args.trip c.args.origin (view c.args.labels.now) (g.L.Line.keys c.args.line.now) c.requires.ready, c.quay-of-quay.ensures, c.requires.many)
+    omega (arith, origin_quay (g.B.Book.meaning c.args.book.now) c.args.trip c.args.origin (view c.args.labels.now) (g.L.Line.keys c.args.line.now) c.requires.ready, c.quay_of-quay.ensures, c.requires.many)
 
-pub relax-span-requires : goal.relax-span-requires
-relax-span-requires g c =
+pub relax_span-requires : goal.relax_span-requires
+relax_span-requires g c =
     let T = g.B.Book.meaning c.args.book.now in
     record {
       ready = c.requires.ready;
-      order = span-order T c.quay-of-quay.result c.in-Ok.span c.requires.ready.fair.lawful (asked_ok T.spans c.quay-of-quay.result nowhere c.in-Ok.span NoQuay c.in-Ok.ensures).1;
+      order = span-order T c.quay_of-quay.result c.in-Ok.span c.requires.ready.fair.lawful (asked_ok T.spans c.quay_of-quay.result nowhere c.in-Ok.span NoQuay c.in-Ok.ensures).1;
     }
 
 pub returns-in-Ok : goal.returns-in-Ok
 returns-in-Ok g c =
     let T = g.B.Book.meaning c.args.book.now in
-    let told = (asked_ok T.spans c.quay-of-quay.result nowhere c.in-Ok.span NoQuay c.in-Ok.ensures).1 in
-    let is = told ∙ ap (span_at T) c.quay-of-quay.ensures in
-    let t = whole T c.args.trip c.args.origin (view c.args.labels.now) (view c.relax-span.new.labels) (g.L.Line.keys c.relax-span.new.line) c.in-Ok.span is c.relax-span.ensures in
+    let told = (asked_ok T.spans c.quay_of-quay.result nowhere c.in-Ok.span NoQuay c.in-Ok.ensures).1 in
+    let is = told ∙ ap (span_at T) c.quay_of-quay.ensures in
+    let t = whole T c.args.trip c.args.origin (view c.args.labels.now) (view c.relax_span.new.labels) (g.L.Line.keys c.relax_span.new.line) c.in-Ok.span is c.relax_span.ensures in
     record {
       through = t;
-      opened = subst (λ k. Opened T c.args.trip (view c.relax-span.new.labels) (set c.args.spans.now k (Some c.in-Ok.span)) (minute_of c.args.origin)) (sym c.quay-of-quay.ensures)
-          (opened-more T c.args.trip c.args.origin (view c.args.labels.now) (view c.relax-span.new.labels) (g.L.Line.keys c.relax-span.new.line) c.args.spans.now c.in-Ok.span
+      opened = subst (λ k. Opened T c.args.trip (view c.relax_span.new.labels) (set c.args.spans.now k (Some c.in-Ok.span)) (minute_of c.args.origin)) (sym c.quay_of-quay.ensures)
+          (opened-more T c.args.trip c.args.origin (view c.args.labels.now) (view c.relax_span.new.labels) (g.L.Line.keys c.relax_span.new.line) c.args.spans.now c.in-Ok.span
           (omega (arith, origin_quay T c.args.trip c.args.origin (view c.args.labels.now) (g.L.Line.keys c.args.line.now) c.requires.ready, c.requires.many)) is c.requires.opened t);
     }
 
-pub returns-in-default : goal.returns-in-default
-returns-in-default g c =
+pub returns-in_default : goal.returns-in_default
+returns-in_default g c =
     let T = g.B.Book.meaning c.args.book.now in
     let q = origin_quay T c.args.trip c.args.origin (view c.args.labels.now) (g.L.Line.keys c.args.line.now) c.requires.ready in
-    absurd (omega (arith, (asked_err T.spans c.quay-of-quay.result nowhere NoQuay _ c.in-default.ensures).0, c.quay-of-quay.ensures, c.requires.ready.fair.lawful.as_many_spans))
+    absurd (omega (arith, (asked_err T.spans c.quay_of-quay.result nowhere NoQuay _ c.in_default.ensures).0, c.quay_of-quay.ensures, c.requires.ready.fair.lawful.as_many_spans))

@@ -6,4 +6,4 @@ use Rattle.routing.proofs.ride.ride_from.Goals as goal
 
 pub overflow-add-arrives : goal.overflow-add-arrives
 overflow-add-arrives c =
-    omega (arith, c.leaves-from-leaves.ensures, c.minutes-of.ensures, next_soon c.args.s c.requires.dep (due_of c.args.origin c.args.s), (length_cycle c.args.s).short, due-latest c.args.origin c.args.s, c.requires.due)
+    omega (arith, c.leaves_from-leaves.ensures, c.minutes_of.ensures, next_soon c.args.s c.requires.dep (due_of c.args.origin c.args.s), (length_cycle c.args.s).short, due-latest c.args.origin c.args.s, c.requires.due)

@@ -6,16 +6,16 @@ use Rattle.thinning.specs.Margins.{passes}
 use Rattle.thinning.specs.Dominance.{dominated, mark_of}
 use Rattle.thinning.proofs.Marking.{marking_starts, marking_set, marking_skip, marking_ends}
 use Rattle.thinning.proofs.thin.mark_weighed.Goals as goal
-use Rattle.thinning.proofs.thin.mark_weighed.Goals.{then-is-to-mark, else-is-to-mark}
+use Rattle.thinning.proofs.thin.mark_weighed.Goals.{then-is_to_mark, else-is_to_mark}
 
 pub loop-place-init : goal.loop-place-init
 loop-place-init g c = marking_starts _ _ c.erase.ensures
 
 pub loop-place-preserved : goal.loop-place-preserved
 loop-place-preserved g c =
-    elim c.if-is-to-mark.branch [
-      | then-is-to-mark w ↦ marking_set _ _ _ _ _ _ c.loop-place.invariant (omega (arith, (g.B.Book.lawful c.args.book.now).few-places)) w.if-is-to-mark.ensures (ap (λ (m : Marks). m.at) w.marks-is ∙ w.mark.ensures) w.count-is
-      | else-is-to-mark w ↦ marking_skip _ _ _ _ _ _ c.loop-place.invariant w.if-is-to-mark.ensures (ap (λ (m : Marks). m.at) w.marks-is) w.count-is
+    elim c.if-is_to_mark.branch [
+      | then-is_to_mark w ↦ marking_set _ _ _ _ _ _ c.loop-place.invariant (omega (arith, (g.B.Book.lawful c.args.book.now).few-places)) w.if-is_to_mark.ensures (ap (λ (m : Marks). m.at) w.marks-is ∙ w.mark.ensures) w.count-is
+      | else-is_to_mark w ↦ marking_skip _ _ _ _ _ _ c.loop-place.invariant w.if-is_to_mark.ensures (ap (λ (m : Marks). m.at) w.marks-is) w.count-is
     ]
 
 pub returns : goal.returns

@@ -9,9 +9,9 @@ use Rattle.thinning.proofs.thin.thin.Goals as goal
 pub returns : goal.returns
 returns g c =
     let t = g.B.Book.meaning c.args.book.now in
-    let done = c.mark-dominated.ensures in
+    let done = c.mark_dominated.ensures in
     record {
       exact = done.exact;
       count = done.count;
-      keeps = keeps t (marked c.mark-dominated.new.marks.at) (λ p s e m. (dominance t p s).0 (sym (ap (passes (dominated t p)) e) ∙ sym (done.exact p) ∙ m));
+      keeps = keeps t (marked c.mark_dominated.new.marks.at) (λ p s e m. (dominance t p s).0 (sym (ap (passes (dominated t p)) e) ∙ sym (done.exact p) ∙ m));
     }

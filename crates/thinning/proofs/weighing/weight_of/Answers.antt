@@ -13,7 +13,7 @@ pub returns-in-Some : goal.returns-in-Some
 returns-in-Some g c =
     let t = g.B.Book.meaning c.args.book.now in
     let s = c.in-Some.s in
-    let a : c.continues-some.result ≡ some_passes (λ r. continues s r) t.places = c.continues-some.ensures ∙ ap (λ (xs : List (Option Sailing)). some_passes (λ r. continues s r) xs) c.requires in
-    let b : c.is-continued.result ≡ some_passes (λ r. continues r s) t.places = c.is-continued.ensures ∙ ap (λ (xs : List (Option Sailing)). some_passes (λ r. continues r s) xs) c.requires in
-    same-weight _ _ _ (margin_before t s) _ (margin_after t s) c.length.ensures.value (c.margin-of.ensures ∙ ap₂ margin a c.change-of.ensures.value) (c.margin-of-in-Some.ensures ∙ ap₂ margin b c.change-of-in-Some.ensures.value)
+    let a : c.continues_some.result ≡ some_passes (λ r. continues s r) t.places = c.continues_some.ensures ∙ ap (λ (xs : List (Option Sailing)). some_passes (λ r. continues s r) xs) c.requires in
+    let b : c.is_continued.result ≡ some_passes (λ r. continues r s) t.places = c.is_continued.ensures ∙ ap (λ (xs : List (Option Sailing)). some_passes (λ r. continues r s) xs) c.requires in
+    same-weight _ _ _ (margin_before t s) _ (margin_after t s) c.length.ensures.value (c.margin_of.ensures ∙ ap₂ margin a c.change_of.ensures.value) (c.margin_of-in-Some.ensures ∙ ap₂ margin b c.change_of-in-Some.ensures.value)
     ∙ ap (weight_from t) (sym c.in-Some.is)

@@ -31,5 +31,5 @@ four line a b m k p q r s e =
 
 pub returns : goal.returns
 returns c =
-    four c.args.line.now c.in-ok-from.from c.in-ok-to.to c.in-ok-minute.minute c.in-ok-class.class
-    c.in-ok-from.ensures c.in-ok-to.ensures c.in-ok-minute.ensures c.in-ok-class.ensures c.if-class-line.false
+    four c.args.line.now c.in_ok-from.from c.in_ok-to.to c.in_ok-minute.minute c.in_ok-class.class
+    c.in_ok-from.ensures c.in_ok-to.ensures c.in_ok-minute.ensures c.in_ok-class.ensures c.if-class-line.false

@@ -4,8 +4,8 @@ use Rattle.typed.specs.Digits.{digits}
 use Rattle.typed.proofs.Spelling.{digits_more}
 use Rattle.typed.proofs.pen.+put_digits.Goals as goal
 
-pub put-digits-last-requires : goal.put-digits-last-requires
-put-digits-last-requires t c =
+pub put_digits-last-requires : goal.put_digits-last-requires
+put_digits-last-requires t c =
     let n = c.args.number in
     (omega arith, omega (arith, ap length (digits_more n (omega arith)), length_push (digits (n / 10)) (48 + n % 10)))
 
@@ -23,5 +23,5 @@ returns t c =
       end = omega (arith, ap length more, length_push (digits (n / 10)) (48 + n % 10));
       front =
           c.put-2.ensures.front
-          ∙ (ap (λ xs. xs ++ (48 + n % 10) ∷ []) c.put-digits-last.ensures.front ∙ (append_assoc front (digits (n / 10)) ((48 + n % 10) ∷ []) ∙ ap (λ ds. front ++ ds) (sym more)));
+          ∙ (ap (λ xs. xs ++ (48 + n % 10) ∷ []) c.put_digits-last.ensures.front ∙ (append_assoc front (digits (n / 10)) ((48 + n % 10) ∷ []) ∙ ap (λ ds. front ++ ds) (sym more)));
     }

@@ -13,7 +13,7 @@ loop-i-preserved c =
     ap (flat_map spaced) (take_more ns i 0 (omega arith)) ∙ sym (flat_map_more spaced [] (take i ns) n) in (
       omega arith,
       omega (arith, ap length grown, length-append (flat_map spaced (take i ns)) (spaced n)),
-      c.put-spaced-at.ensures.front ∙ (ap (λ xs. xs ++ spaced n) c.loop-i.invariant.2 ∙ ap (λ xs. c.args.letter ∷ xs) (sym grown)),
+      c.put_spaced-at.ensures.front ∙ (ap (λ xs. xs ++ spaced n) c.loop-i.invariant.2 ∙ ap (λ xs. c.args.letter ∷ xs) (sym grown)),
     )
 
 pub returns : goal.returns

@@ -4,8 +4,8 @@ use Rattle.typed.specs.Digits.{digits}
 use Rattle.typed.proofs.Spelling.{few-digits}
 use Rattle.typed.proofs.pen.put_spaced.Goals as goal
 
-pub put-digits-requires : goal.put-digits-requires
-put-digits-requires c = omega (arith, few-digits c.args.number (omega arith))
+pub put_digits-requires : goal.put_digits-requires
+put_digits-requires c = omega (arith, few-digits c.args.number (omega arith))
 
 pub returns : goal.returns
 returns c =
@@ -14,5 +14,5 @@ returns c =
     record {
       bound = omega (arith, few-digits n (omega arith));
       end = omega arith;
-      front = c.put-digits.ensures.front ∙ (ap (λ xs. xs ++ digits n) c.put-digits-at.ensures.front ∙ append_assoc front (32 ∷ []) (digits n));
+      front = c.put_digits.ensures.front ∙ (ap (λ xs. xs ++ digits n) c.put_digits-at.ensures.front ∙ append_assoc front (32 ∷ []) (digits n));
     }

@@ -4,8 +4,8 @@ use Rattle.typed.specs.Saying.{Says}
 use Rattle.typed.proofs.Sayings.{says}
 use Rattle.typed.proofs.read.read_command.Goals as goal
 
-pub returns-then-is-empty : goal.returns-then-is-empty
-returns-then-is-empty c =
+pub returns-then-is_empty : goal.returns-then-is_empty
+returns-then-is_empty c =
     let line = c.args.line.now in
     let e : _ ≡ command_of line = search rules in
     record { value = e; exact = subst (λ r. Says line r) (sym e) (says line) }

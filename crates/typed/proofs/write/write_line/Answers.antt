@@ -23,8 +23,8 @@ returns c =
     let fits : ltb (length old) (length bs) ≡ false = le-ltb (length old) (length bs) (omega arith) in
     let len = c.compose-len.result in
     let same : len - 0 ≡ len = omega arith in
-    let written : c.copy-from-slice.new.self ≡ bs =
-    c.copy-from-slice.ensures.after ∙ (ap (λ k. take k c.compose-len.new.bytes) same ∙ c.compose-len.ensures.front) in
+    let written : c.copy_from_slice.new.self ≡ bs =
+    c.copy_from_slice.ensures.after ∙ (ap (λ k. take k c.compose-len.new.bytes) same ∙ c.compose-len.ensures.front) in
     record {
       answer = ap Ok (omega arith) ∙ sym (cond-false (ltb (length old) (length bs)) (Err ShortBuffer) (Ok (length bs)) fits);
       after = ap (λ xs. xs ++ drop (len - 0) old) written ∙ (ap (λ k. bs ++ drop k old) (same ∙ c.compose-len.ensures.end)) ∙ sym (cond-false (ltb (length old) (length bs)) old (bs ++ drop (length bs) old) fits);

@@ -9,6 +9,6 @@ pub returns : goal.returns
 returns g c =
     let s = state_of g.B.Book.meaning c.args.self.now in
     let done = c.withhold-withheld.ensures in
-    let after = runs-noted s _ (on_withhold s c.args.run) c.withhold-withheld.result _ done.answer c.is-ok.ensures.value (ap g.B.Book.meaning done.below) c.after-notice.ensures
+    let after = runs-noted s _ (on_withhold s c.args.run) c.withhold-withheld.result _ done.answer c.is_ok.ensures.value (ap g.B.Book.meaning done.below) c.after_notice.ensures
     (s.runs ++ (c.args.run ∷ [])) done.after refl in
     record { answer = done.answer; after = after; law = withhold_carries s _ c.withhold-withheld.result c.args.run (omega arith) done.answer after }

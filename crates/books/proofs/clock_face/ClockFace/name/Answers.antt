@@ -4,6 +4,6 @@ use Rattle.books.proofs.clock_face.ClockFace.name.Goals as goal
 
 pub returns : goal.returns
 returns c = record {
-  value = c.name-in.ensures;
-  trims = λ n e. name-trims c.args.self.now.bytes.now c.args.quay n (sym c.name-in.ensures ∙ e);
+  value = c.name_in.ensures;
+  trims = λ n e. name-trims c.args.self.now.bytes.now c.args.quay n (sym c.name_in.ensures ∙ e);
 }

@@ -6,4 +6,4 @@ use Rattle.books.proofs.clock_face_book.ClockFaceBook.places.Goals as goal
 pub returns : goal.returns
 returns c =
     let bs = c.args.self.now.bytes.now in
-    c.leaving-below.ensures ∙ ap (λ n. below n (clock_sailings bs)) c.number-at.ensures ∙ all-below bs c.args.self.now.sound
+    c.leaving_below.ensures ∙ ap (λ n. below n (clock_sailings bs)) c.number_at.ensures ∙ all-below bs c.args.self.now.sound

@@ -3,13 +3,13 @@ use Rattle.image.specs.Meanings.{clock_sailings}
 use Rattle.image.proofs.Tables.{span-told, span_untold}
 use Rattle.books.proofs.clock_face_book.ClockFaceBook.span.Goals as goal
 
-pub returns-then-quay-number-at : goal.returns-then-quay-number-at
-returns-then-quay-number-at c =
+pub returns-then-quay-number_at : goal.returns-then-quay-number_at
+returns-then-quay-number_at c =
     let bs = c.args.self.now.bytes.now in
-    sym (span_untold bs (clock_sailings bs) c.args.quay (omega (arith, c.number-at.ensures)))
+    sym (span_untold bs (clock_sailings bs) c.args.quay (omega (arith, c.number_at.ensures)))
 
 pub returns : goal.returns
 returns c =
     let bs = c.args.self.now.bytes.now in
-    let t = span-told bs (clock_sailings bs) c.args.quay (omega (arith, c.number-at.ensures)) in
-    rw (c.leaving-below.ensures, c.leaving-below-2.ensures) (sym t)
+    let t = span-told bs (clock_sailings bs) c.args.quay (omega (arith, c.number_at.ensures)) in
+    rw (c.leaving_below.ensures, c.leaving_below-2.ensures) (sym t)

@@ -3,4 +3,4 @@ use Rattle.image.proofs.Prints.{places-long}
 use Rattle.books.proofs.printed_book.PrintedBook.places.Goals as goal
 
 pub returns : goal.returns
-returns c = c.number-at.ensures ∙ sym (places-long c.args.self.now.bytes.now)
+returns c = c.number_at.ensures ∙ sym (places-long c.args.self.now.bytes.now)

@@ -9,17 +9,17 @@ returns-then-item-self c =
     turns.answers_outside h.size h.keys c.args.item c.args.key (omega (arith, h.few, h.long)) (omega (arith, c.if-item-self.true))
 
 -- the heap refuses nothing that the line puts into it
-pub invariant-of-self : goal.invariant-of-self
-invariant-of-self c = absurd (turns.never-refused c.args.self.now c.args.item c.args.key (omega (arith, c.if-item-self.false)) _ _ _ c.in-err-place.ensures)
+pub invariant_of-self : goal.invariant_of-self
+invariant_of-self c = absurd (turns.never-refused c.args.self.now c.args.item c.args.key (omega (arith, c.if-item-self.false)) _ _ _ c.in_err-place.ensures)
 
-pub returns-in-err-place : goal.returns-in-err-place
-returns-in-err-place c = absurd (turns.never-refused c.args.self.now c.args.item c.args.key (omega (arith, c.if-item-self.false)) _ _ _ c.in-err-place.ensures)
+pub returns-in_err-place : goal.returns-in_err-place
+returns-in_err-place c = absurd (turns.never-refused c.args.self.now c.args.item c.args.key (omega (arith, c.if-item-self.false)) _ _ _ c.in_err-place.ensures)
 
-pub invariant-of-self-2 : goal.invariant-of-self-2
-invariant-of-self-2 c =
+pub invariant_of-self-2 : goal.invariant_of-self-2
+invariant_of-self-2 c =
     let h = c.args.self.now in
     let w = c.place.new.waiting in
-    let (t, long) = turns.placed h c.args.item c.args.key (omega (arith, c.if-item-self.false)) w.rows w.count _ c.in-ok-place.ensures in (
+    let (t, long) = turns.placed h c.args.item c.args.key (omega (arith, c.if-item-self.false)) w.rows w.count _ c.in_ok-place.ensures in (
       h.few,
       (
         length-set h.keys c.args.item (Some c.args.key) ∙ h.long,

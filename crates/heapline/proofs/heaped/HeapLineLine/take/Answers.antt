@@ -6,22 +6,22 @@ use Rattle.heapline.specs.Lines.{keys_of}
 use Rattle.heapline.proofs.Turns as turns
 use Rattle.heapline.proofs.heaped.HeapLineLine.take.Goals as goal
 
-pub returns-in-err-first : goal.returns-in-err-first
-returns-in-err-first c =
+pub returns-in_err-first : goal.returns-in_err-first
+returns-in_err-first c =
     let h = c.args.self.now in
-    subst (λ r. Takes (keys_of h) r (keys_of h)) (sym c.from-residual.ensures) (turns.nothing-taken h c.in-err-first.ensures.rows.0, refl)
+    subst (λ r. Takes (keys_of h) r (keys_of h)) (sym c.from-residual.ensures) (turns.nothing-taken h c.in_err-first.ensures.rows.0, refl)
 
 pub bounds-self-first : goal.bounds-self-first
 bounds-self-first c =
     let h = c.args.self.now in
-    omega (arith, turns.taken-inside h c.in-ok-first.first c.take-least.new.self.rows c.in-ok-first.ensures.rows, h.few)
+    omega (arith, turns.taken-inside h c.in_ok-first.first c.take_least.new.self.rows c.in_ok-first.ensures.rows, h.few)
 
-pub invariant-of-self-2 : goal.invariant-of-self-2
-invariant-of-self-2 c =
+pub invariant_of-self-2 : goal.invariant_of-self-2
+invariant_of-self-2 c =
     let h = c.args.self.now in
-    let w = c.in-ok-first.first in
-    let left = c.take-least.new.self in
-    let told = c.in-ok-first.ensures in
+    let w = c.in_ok-first.first in
+    let left = c.take_least.new.self in
+    let told = c.in_ok-first.ensures in
     let (t, long) = turns.taken-tallies h w left.rows told.rows left.count told.count in (
       h.few,
       (
@@ -36,7 +36,7 @@ invariant-of-self-2 c =
 pub returns : goal.returns
 returns c =
     let h = c.args.self.now in
-    let w = c.in-ok-first.first in
-    let rows = c.take-least.new.self.rows in
-    let told = c.in-ok-first.ensures.rows in
+    let w = c.in_ok-first.first in
+    let rows = c.take_least.new.self.rows in
+    let told = c.in_ok-first.ensures.rows in
     (turns.taken-first h w rows told, take-set-lt h.size h.keys w.item None (turns.taken-inside h w rows told))

@@ -5,8 +5,8 @@ use Rattle.heapline.specs.Tallies.{times_of, key_of}
 use Rattle.heapline.proofs.Turns as turns
 use Rattle.heapline.proofs.line.HeapLine.new.Goals as goal
 
-pub invariant-of-result : goal.invariant-of-result
-invariant-of-result c =
+pub invariant_of-result : goal.invariant_of-result
+invariant_of-result c =
     let ws = take c.new.result.count c.new.result.rows in
     let none : c.new.result.count ≡ 0 = c.new.ensures.count in (
       omega (arith, c.min.ensures),

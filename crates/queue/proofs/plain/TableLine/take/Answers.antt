@@ -14,6 +14,6 @@ returns c =
     let f = subst (λ n. First (take n c.args.self.now.keys) c.in-Some.item c.in-Some.key) {x = c.args.self.now.size - 0} {y = c.args.self.now.size} (omega arith) c.in-Some.ensures in
     (f, taken-rows c.args.self.now c.in-Some.item c.in-Some.key f)
 
-pub returns-in-default : goal.returns-in-default
-returns-in-default c =
-    (subst (λ n. FirstOf (take n c.args.self.now.keys) None) {x = c.args.self.now.size - 0} {y = c.args.self.now.size} (omega arith) c.in-default.ensures, refl)
+pub returns-in_default : goal.returns-in_default
+returns-in_default c =
+    (subst (λ n. FirstOf (take n c.args.self.now.keys) None) {x = c.args.self.now.size - 0} {y = c.args.self.now.size} (omega arith) c.in_default.ensures, refl)
