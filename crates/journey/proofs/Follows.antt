@@ -1,12 +1,11 @@
 -- Journeys, leg by leg. Assumes nothing.
-use Rattle.std.proofs.Common.{◌≡◌, ℕ, ◌+◌, ◌≤◌, Bool, List, [], ◌∷◌, ◌++◌, sym, refl, ◌∙◌, arith}
+use Rattle.std.proofs.Common.{◌≡◌, ℕ, ◌≤◌, Bool, List, [], ◌∷◌, ◌++◌, sym, refl, arith}
 use Rattle.timetable.specs.declared.sailing.Sailing.{Sailing}
 use Rattle.timetable.specs.declared.query.Leg.{Leg}
-use Rattle.timetable.specs.Times.{length_of}
 use Rattle.timetable.specs.Timetables.{Timetable}
 use Rattle.timetable.specs.Hiding.{hide}
 use Rattle.timetable.proofs.HidingLemmas.{place-below}
-use Rattle.journey.specs.Journeys.{Stand, start, after, wait, Boards, Leads}
+use Rattle.journey.specs.Journeys.{Stand, start, after, Leads}
 use Rattle.journey.specs.Laws.{JourneyLaws}
 
 last-arrives : (t : Timetable) (extra : ℕ) (here : Stand) (legs : List Leg) (leg : Leg) (to a : ℕ) → Leads t extra here (legs ++ (leg ∷ [])) to a → a ≡ leg.arrives

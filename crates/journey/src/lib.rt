@@ -1,2 +1,4 @@
 //! What a journey is, over any timetable.
+#![tactic(auto)]
+
 pub mod laws;
