@@ -1,9 +1,8 @@
 -- The rows of a table that count, as they change. Assumes nothing.
-use Rattle.std.proofs.Common.{◌≡◌, ℕ, ◌+◌, ◌<◌, ◌≤◌, Bool, true, false, cond, ltb, List, length, take, set, Some, None, Ok, Err, Option, Result, sym, refl, ap, ◌∙◌, arith}
+use Rattle.std.proofs.Common.{◌≡◌, ℕ, ◌<◌, ◌≤◌, Bool, true, false, cond, ltb, length, take, set, Some, None, Ok, Err, Option, sym, refl, ap, ◌∙◌, arith}
 use lib.Seq.{take-set-lt}
 use Rattle.std.proofs.lemmas.Bool.{lt-ltb, le-ltb, ltb-true}
 use Rattle.std.proofs.lemmas.List.{take-replicate}
-use Rattle.timetable.specs.declared.refusal.Refusal.{Refusal}
 use Rattle.timetable.specs.declared.refusal.Refusal.TheVariants.{NoItem}
 use Rattle.queue.specs.declared.table.Table.{Table}
 use Rattle.queue.specs.Lines.{most_items, idle, First, set_answer, set_in}

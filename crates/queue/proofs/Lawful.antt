@@ -1,7 +1,7 @@
 -- The laws of waiting lines hold. Assumes nothing.
-use Rattle.std.proofs.Common.{◌≡◌, ℕ, ◌≤◌, Bool, true, false, cond, ltb, List, length, set, Some, None, Option, sym, refl, ap, ◌∙◌, arith}
+use Rattle.std.proofs.Common.{◌≡◌, ℕ, Bool, true, false, cond, ltb, List, length, set, Some, None, Option, sym, refl, ap, ◌∙◌, arith}
 use Rattle.std.proofs.lemmas.List.{length-set, length-replicate}
-use Rattle.queue.specs.Lines.{Waits, First, Takes, set_in, idle}
+use Rattle.queue.specs.Lines.{Waits, First, Takes, set_in}
 use Rattle.queue.specs.Laws.{LineLaws}
 
 abbrev nothing : Option ℕ

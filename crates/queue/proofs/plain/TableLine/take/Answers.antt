@@ -1,4 +1,4 @@
-use Rattle.std.proofs.Common.{◌≡◌, ◌-◌, take, Some, None, refl, subst, arith}
+use Rattle.std.proofs.Common.{◌-◌, take, None, refl, subst, arith}
 use Rattle.queue.specs.Lines.{First}
 use Rattle.queue.specs.Firsts.{FirstOf}
 use Rattle.queue.proofs.Kept.{taken-inside, taken-rows}
