@@ -3,7 +3,7 @@ use Rattle.std.proofs.Common.{◌≡◌, ℕ, ◌+◌, ◌-◌, ◌<◌, ◌≤�
 use Rattle.std.proofs.lemmas.List.Sums.{prefix_len-le-length}
 use Rattle.std.proofs.lemmas.Bool.{and_parts, and_from, or_parts, or_from, ltb-true, ltb-false, eqb-true, eqb-false, lt-ltb, le-ltb, eq-eqb, ne_eqb}
 use Rattle.numerals.specs.declared.wide_field.WideField.{WideField}
-use Rattle.numerals.specs.Digits.{is_digit, Digit, digit_run, decimal}
+use Rattle.numerals.specs.Digits.{is_digit, digit_run, decimal}
 use Rattle.numerals.specs.Wides.{wide_of, wide_from, wide_at, WideNumeral}
 use Rattle.numerals.proofs.Runs.{run-yes, run-no, run_is}
 use Rattle.numerals.proofs.Standing.{opened, passed, digit_true, true_digit, digit_false, false_digit, in_rest}
