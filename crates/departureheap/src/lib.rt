@@ -1,4 +1,6 @@
 //! Rows of a departure list, and a heap of them over a lent store.
+#![tactic(auto)]
+
 pub mod departure;
 pub mod departure_heap;
 pub mod heap_calls;

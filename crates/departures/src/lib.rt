@@ -1,4 +1,6 @@
 //! The departure list of a quay, over any book: its sailings by their next departures.
+#![tactic(auto)]
+
 mod drain;
 mod gather;
 pub mod laws;

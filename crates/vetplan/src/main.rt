@@ -1,4 +1,6 @@
 //! Vets the plan on standard input against the book in book.img: is it a journey for its query?
+#![tactic(auto)]
+
 mod desk;
 
 use crate::desk::serve;
