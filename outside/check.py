@@ -15,7 +15,7 @@ from collections import Counter
 import makers
 import planted
 import timetable
-from judge import Wrong, judge
+from judge import LISTS, Wrong, judge
 from layout import Fault, Series, read_image, write_image
 from runner import Broken, Runner
 
@@ -24,7 +24,7 @@ WORKERS = 2
 CHUNK = 50
 PLANTED_RUNS = 400
 # every answer that canalroute has for a line, and every refusal of an image
-ANSWERS = ["K", "T", "N", "A", "L", "D"] + [f"E {number}" for number in (11, 12, 14, *range(31, 37), *range(51, 55))]
+ANSWERS = ["K", "T", "N", "A", "L"] + ["D"] * LISTS + [f"E {number}" for number in (11, 12, 14, *range(31, 37), *range(51, 55))]
 IMAGE_ANSWERS = [f"E {number} byte" for number in range(1, 7)]
 LEAST_SEEN = 25
 
@@ -211,7 +211,7 @@ def run_chunk(task):
 
 
 def stored_cases(bench):
-    names = sorted(os.listdir(os.path.join(HERE, "cases")))
+    names = sorted(name for name in os.listdir(os.path.join(HERE, "cases")) if LISTS or "departures" not in name)
     return [attempt(stored_case, bench, name) for name in names]
 
 

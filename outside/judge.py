@@ -5,8 +5,13 @@ Answers are compared exactly. Only the choice among equally early journeys is op
 import rules
 from layout import DAY, Fault, Sailing, read_image
 
+# Whether canalroute has the departure list: until it does, D is no letter.
+LISTS = False
+
 # The letters of commands, and how many numbers each has.
-LETTERS = {ord("W"): 1, ord("R"): 1, ord("S"): 1, ord("O"): 1, ord("T"): 0, ord("Q"): 4, ord("D"): 2}
+LETTERS = {ord("W"): 1, ord("R"): 1, ord("S"): 1, ord("O"): 1, ord("T"): 0, ord("Q"): 4}
+if LISTS:
+    LETTERS[ord("D")] = 2
 
 MOST_BYTES = 64
 MOST_NUMBER = 65535

@@ -237,3 +237,6 @@ FAULTS.update(
         "another minute of a departure": altered(rb"^D \d+ \d+ \d+ (\d+)$", higher(1)),
     }
 )
+
+if not judge.LISTS:
+    FAULTS = {name: fault for name, fault in FAULTS.items() if "departure" not in name}
