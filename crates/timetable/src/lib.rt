@@ -1,5 +1,6 @@
 //! Sailings and their minutes, the refusals and their numbers, and what a book of sailings means.
 #![tactic(auto)]
+
 pub mod book;
 pub mod classes;
 pub mod hiding;

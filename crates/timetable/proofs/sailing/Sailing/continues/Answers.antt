@@ -1,6 +1,4 @@
-use Rattle.std.proofs.Common.{◌≡◌}
 use Rattle.std.proofs.lemmas.Bool.Decides.{Decides-at}
-use Rattle.timetable.specs.Times.{continues, Continues}
 use Rattle.timetable.proofs.Laws.{continues-means}
 use Rattle.timetable.proofs.sailing.Sailing.continues.Goals as goal
 

@@ -1,4 +1,4 @@
-use Rattle.std.proofs.Common.{◌≡◌, ℕ, ◌+◌, ◌*◌, ◌/◌, sym, ap, subst}
+use Rattle.std.proofs.Common.{◌≡◌, ◌+◌, ◌*◌, ◌/◌, sym, ap, subst}
 use Rattle.timetable.specs.Times.{day, next, Next}
 use Rattle.timetable.proofs.Laws.{next-is, departures}
 use Rattle.timetable.proofs.sailing.Sailing.next_departure.Goals as goal
