@@ -1,4 +1,4 @@
-use Rattle.std.proofs.Common.{◌≡◌, ◌<◌, length, get_or, sym, ◌∙◌, arith, length-take}
+use Rattle.std.proofs.Common.{sym, ◌∙◌, arith}
 use Rattle.std.proofs.lemmas.List.{get_or-take, at_drop_all, length-take-le}
 use Rattle.tables.specs.Lists.{has}
 use Rattle.tables.specs.Kept.{kept}
