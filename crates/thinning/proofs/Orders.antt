@@ -2,10 +2,10 @@
 use Rattle.std.proofs.Common.{◌≡◌, ℕ, zero, suc, ◌+◌, ◌*◌, ◌<◌, ◌≤◌, Bool, true, false, ◌⊎◌, sym, ◌∙◌, subst, subst₂, inl, inr, ⊎_elim, arith}
 use Rattle.std.proofs.lemmas.Bool.{cases_lt, cases_Bool, true≢false}
 use Rattle.timetable.specs.declared.sailing.Sailing.{Sailing}
-use Rattle.timetable.specs.Times.{day, length_of, next, Leaves}
+use Rattle.timetable.specs.Times.{day, next}
 use Rattle.timetable.specs.Timetables.{Timetable}
 use Rattle.timetable.proofs.Laws.{next-late, next-leaves, next-least}
-use Rattle.thinning.specs.Margins.{margin_before, margin_after}
+use Rattle.thinning.specs.Margins.{margin_before}
 use Rattle.thinning.specs.Dominance.{Beats, Outranks}
 
 -- what leaves so early leaves as early some days later

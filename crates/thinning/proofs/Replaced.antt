@@ -1,5 +1,5 @@
 -- A journey with each dominated leg replaced by one that is not. Assumes nothing.
-use Rattle.std.proofs.Common.{◌≡◌, ℕ, ◌+◌, ◌<◌, ◌≤◌, Bool, true, false, cond, ◌⊎◌, List, [], ◌∷◌, Some, sym, refl, ap, ◌∙◌, inl, inr, ⊎_elim, arith}
+use Rattle.std.proofs.Common.{◌≡◌, ℕ, ◌+◌, ◌≤◌, Bool, true, false, cond, ◌⊎◌, List, [], ◌∷◌, Some, sym, refl, ap, ◌∙◌, inl, inr, ⊎_elim, arith}
 use Rattle.std.proofs.lemmas.Bool.{cases_Bool, cond-false}
 use Rattle.timetable.specs.declared.sailing.Sailing.{Sailing}
 use Rattle.timetable.specs.declared.query.Query.{Query}
@@ -9,7 +9,7 @@ use Rattle.timetable.specs.Times.{length_of, next, Leaves, continues}
 use Rattle.timetable.specs.Timetables.{Timetable, place_at, change_at}
 use Rattle.timetable.specs.Hiding.{hide}
 use Rattle.timetable.proofs.Laws.{next-late, next-leaves, class-short, continues-means}
-use Rattle.journey.specs.Journeys.{Stand, start, after, wait, Boards, Leads, Journey}
+use Rattle.journey.specs.Journeys.{Stand, start, after, wait, Leads, Journey}
 use Rattle.thinning.specs.Margins.{margin_before, margin_after}
 use Rattle.thinning.specs.Dominance.{Beats, dominated}
 use Rattle.thinning.specs.Thinning.{Picks, By, Keeps, ThinningLaws}

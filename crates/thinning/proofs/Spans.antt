@@ -1,5 +1,5 @@
 -- What leaves another quay cannot outrank a sailing, so the span of its quay is all there is to look through. Assumes nothing.
-use Rattle.std.proofs.Common.{◌≡◌, ℕ, zero, suc, ◌+◌, ◌<◌, ◌≤◌, Bool, true, false, ◌||◌, ◌⊎◌, List, length, get_or, Some, None, Option, sym, refl, ap, ◌∙◌, subst, inl, inr, ⊎_elim, arith}
+use Rattle.std.proofs.Common.{◌≡◌, ℕ, zero, suc, ◌<◌, ◌≤◌, Bool, true, false, List, length, get_or, Some, None, Option, sym, refl, ap, ◌∙◌, subst, ⊎_elim, arith}
 use Rattle.std.proofs.lemmas.Bool.{cases_lt, cases_Bool, or_left, or_right}
 use Rattle.timetable.specs.declared.sailing.Sailing.{Sailing}
 use Rattle.timetable.specs.Timetables.{Timetable, Lawful, place_at, span_at}
@@ -7,7 +7,7 @@ use Rattle.thinning.specs.declared.weight.Weight.{Weight}
 use Rattle.thinning.specs.Margins.{passes}
 use Rattle.thinning.specs.Dominance.{outranks, over_from, some_below, dominated}
 use Rattle.thinning.specs.Weights.{weight_of, weight_from, no_weight, outranks_by, Weighed}
-use Rattle.thinning.proofs.Tested.{passing, outranks-parts, place-stands}
+use Rattle.thinning.proofs.Tested.{passing, outranks-parts}
 use Rattle.thinning.proofs.Descent.{none_below}
 
 -- what outranks q stands within the span of the quay that q leaves

@@ -1,14 +1,13 @@
 -- Each test decides what it is named for. Assumes nothing.
-use Rattle.std.proofs.Common.{◌≡◌, ℕ, zero, suc, ◌+◌, ◌<◌, ◌≤◌, Bool, true, false, not, ◌&&◌, ◌||◌, eqb, ltb, leb, ◌⊎◌, List, [], ◌∷◌, length, get_or, Some, None, Decides, Option, sym, refl, ap, ◌∙◌, subst, inl, inr, ⊎_elim, arith}
+use Rattle.std.proofs.Common.{◌≡◌, ℕ, zero, suc, ◌<◌, Bool, true, false, not, ltb, List, [], ◌∷◌, length, get_or, Some, None, Decides, Option, sym, refl, ap, ◌∙◌, ⊎_elim, arith}
 use Rattle.std.proofs.lemmas.List.{get_or_past}
 use Rattle.std.proofs.lemmas.Bool.Decides.{Decides-below_or}
-use Rattle.std.proofs.lemmas.Bool.{cases_lt, cases_Bool, eqb-true, eqb-false, leb-true, le-leb, eq-eqb, ne_eqb, and_parts, and_from, and_cases, and_left, and_right, or_cases, or_from, or_left, or_right, le-ltb, ltb-false, true≢false, false≢true, not-true, cond-true, cond-false}
+use Rattle.std.proofs.lemmas.Bool.{cases_lt, cases_Bool, eqb-true, eqb-false, leb-true, le-leb, eq-eqb, ne_eqb, and_parts, and_from, and_cases, and_left, and_right, or_from, or_left, or_right, le-ltb, ltb-false, true≢false, false≢true, not-true, cond-true, cond-false}
 use Rattle.timetable.specs.declared.sailing.Sailing.{Sailing}
-use Rattle.timetable.specs.Classes.{most}
-use Rattle.timetable.specs.Times.{continues, Continues}
-use Rattle.timetable.specs.Timetables.{Timetable, place_at, change_at}
+use Rattle.timetable.specs.Times.{continues}
+use Rattle.timetable.specs.Timetables.{Timetable, place_at}
 use Rattle.timetable.proofs.Laws.{continues-means}
-use Rattle.thinning.specs.Margins.{passes, some_passes, margin_before, margin_after}
+use Rattle.thinning.specs.Margins.{passes, some_passes}
 use Rattle.thinning.specs.Dominance.{Beats, beats, Outranks, outranks, Dominated, over_from, some_below, dominated}
 use Rattle.thinning.specs.Thinning.{MarginLaws}
 
@@ -39,7 +38,7 @@ margin_laws t s = record {
   before-some = λ k r e h. cond-true _ _ _ (some-passes (λ y. continues s y) t.places k r e ((continues-means s r).1 h));
   before-none = λ h. cond-false _ _ _ (none_passes (λ y. continues s y) t.places (λ k r e y. h k r e ((continues-means s r).0 y)));
   after-some = λ k r e h. cond-true _ _ _ (some-passes (λ y. continues y s) t.places k r e ((continues-means r s).1 h));
-  after_none = λ h. cond-false _ _ _ (none_passes (λ y. continues y s) t.places (λ k r e y. h k r e ((continues-means r s).0 y)));
+  after-none = λ h. cond-false _ _ _ (none_passes (λ y. continues y s) t.places (λ k r e y. h k r e ((continues-means r s).0 y)));
 }
 
 pub beats-parts : (t : Timetable) (p : ℕ) (P : Sailing) (q : ℕ) (Q : Sailing) → beats t p P q Q ≡ true → Beats t p P q Q

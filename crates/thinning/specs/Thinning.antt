@@ -37,7 +37,7 @@ pub record MarginLaws (t : Timetable) (s : Sailing) : Type 0 where
   pub before-some : (k : ℕ) (r : Sailing) → place_at t k ≡ Some r → Continues s r → margin_before t s ≡ change_at t s.from + most
   pub before-none : ((k : ℕ) (r : Sailing) → place_at t k ≡ Some r → Continues s r → ⊥) → margin_before t s ≡ 0
   pub after-some : (k : ℕ) (r : Sailing) → place_at t k ≡ Some r → Continues r s → margin_after t s ≡ change_at t s.to + most
-  pub after_none : ((k : ℕ) (r : Sailing) → place_at t k ≡ Some r → Continues r s → ⊥) → margin_after t s ≡ 0
+  pub after-none : ((k : ℕ) (r : Sailing) → place_at t k ≡ Some r → Continues r s → ⊥) → margin_after t s ≡ 0
 
 -- each test decides what it is named for, and hiding dominated sailings, all or some, keeps every arrival
 pub record ThinningLaws : Type 0 where

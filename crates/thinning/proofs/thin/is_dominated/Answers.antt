@@ -1,6 +1,6 @@
-use Rattle.std.proofs.Common.{◌≡◌, ℕ, ◌+◌, ◌<◌, ◌≤◌, Bool, true, false, length, sym, refl, ap, ◌∙◌, subst, arith, below_more}
+use Rattle.std.proofs.Common.{◌≡◌, ℕ, ◌<◌, ◌≤◌, false, length, sym, ap, ◌∙◌, arith, below_more}
 use Rattle.timetable.specs.declared.span.Span.{Span}
-use Rattle.timetable.specs.Timetables.{place_at, span_at}
+use Rattle.timetable.specs.Timetables.{place_at}
 use Rattle.thinning.specs.Dominance.{over_from}
 use Rattle.thinning.proofs.Tested.{place-stands}
 use Rattle.thinning.proofs.Spans.{none-in_span, one-in_span, over-at}

@@ -1,4 +1,4 @@
-use Rattle.std.proofs.Common.{◌≡◌, ℕ, length, None, ap, ◌∙◌, arith}
+use Rattle.std.proofs.Common.{◌≡◌, length, None, ap, ◌∙◌, arith}
 use Rattle.std.proofs.lemmas.List.{get_or_past}
 use Rattle.tables.specs.declared.marks.Marks.{Marks}
 use Rattle.tables.specs.Lists.{many}

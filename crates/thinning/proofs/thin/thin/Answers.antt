@@ -1,4 +1,4 @@
-use Rattle.std.proofs.Common.{◌≡◌, true, sym, ap, ◌∙◌}
+use Rattle.std.proofs.Common.{sym, ap, ◌∙◌}
 use Rattle.thinning.specs.Margins.{passes}
 use Rattle.thinning.specs.Dominance.{dominated}
 use Rattle.thinning.specs.Thinning.{marked}
