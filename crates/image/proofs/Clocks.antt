@@ -1,5 +1,5 @@
 -- The sailings of a clock_face image. Assumes nothing.
-use Rattle.std.proofs.Common.{◌≡◌, ℕ, zero, suc, ◌+◌, ◌-◌, ◌*◌, ◌%◌, ◌<◌, ◌≤◌, true, cond, ltb, List, [], ◌∷◌, ◌++◌, map, length, get_or, drop, is_ok, Some, None, sum_by, count_by, Option, sym, refl, ap, ◌∙◌, subst, ⊎_elim, mul-le-mul_right, zero-add, add-one, arith, length-append}
+use Rattle.std.proofs.Common.{◌≡◌, ℕ, ◌+◌, ◌-◌, ◌*◌, ◌<◌, ◌≤◌, true, cond, ltb, List, [], ◌∷◌, ◌++◌, map, length, get_or, drop, is_ok, Some, None, sum_by, sym, refl, ap, ◌∙◌, subst, ⊎_elim, mul-le-mul_right, zero-add, add-one, arith, length-append}
 use mathlib.Core.List.{map-append}
 use lib.ListN.{length-map}
 use Rattle.std.specs.List.{range_with_len, flat_map, AllByRecursion as All}
@@ -8,13 +8,12 @@ use Rattle.std.proofs.ByRecursion.{All-map, All-weaker}
 use Rattle.std.proofs.lemmas.List.{at_drop_more, get_or_append_left, get_or-append_right, get_or-map, flat_map_more}
 use Rattle.std.proofs.lemmas.List.Sums.{sum_by-cons, sum_by-append}
 use Rattle.std.proofs.lemmas.Bool.{lt-ltb, le-ltb, cases_lt, cond_both}
-use Rattle.timetable.specs.declared.sailing.Sailing.{Sailing}
 use Rattle.image.specs.declared.series.Series.{Series}
-use Rattle.image.specs.Records.{number_at, quays_in, entries_in, entry_at, series_at, series_of, quay_at, quays_of}
+use Rattle.image.specs.Records.{quays_in, entries_in, entry_at, series_at, series_of, quay_at, quays_of}
 use Rattle.image.specs.Checks.{clock_check, places_to}
 use Rattle.timetable.specs.Timetables.{Within, Lawful}
 use Rattle.image.specs.Meanings.{below, member, members, changes_of, clock_sailings, clock_face}
-use Rattle.image.proofs.Good.{ClockGood, clock_good, Rhythm}
+use Rattle.image.proofs.Good.{ClockGood, clock_good}
 use Rattle.image.proofs.Cuts.{all-rows}
 use Rattle.image.proofs.Contained.{rises_in, places_are, places_fit, row}
 use Rattle.image.proofs.Exact.{ok_is}

@@ -1,18 +1,17 @@
 -- An image that passes the check is the bytes of what it holds. Assumes nothing.
-use Rattle.std.proofs.Common.{◌≡◌, ℕ, zero, suc, ◌+◌, ◌-◌, ◌*◌, ◌/◌, ◌%◌, ◌<◌, ◌≤◌, List, [], ◌∷◌, ◌++◌, map, length, get_or, take, drop, replicate, sum_by, sym, refl, ap, ◌∙◌, subst, ⊎_elim, append_assoc, append-nil, add-zero, mul-le-mul_right, mul-zero, zero-add, mul-suc, add-one, arith, length-append, length-drop, take-append-drop, length-take}
-use Rattle.std.specs.List.{range_with_len, flat_map, AllByRecursion as All}
+use Rattle.std.proofs.Common.{◌≡◌, ℕ, zero, suc, ◌+◌, ◌-◌, ◌<◌, ◌≤◌, List, [], ◌∷◌, ◌++◌, map, length, get_or, take, drop, replicate, sum_by, sym, refl, ap, ◌∙◌, subst, ⊎_elim, append-nil, add-zero, mul-le-mul_right, mul-zero, zero-add, mul-suc, add-one, arith, length-drop, take-append-drop, length-take}
+use Rattle.std.specs.List.{range_with_len, flat_map}
 use Rattle.std.proofs.lemmas.List.FromFn.{length-map-range_with_len, get_or-map-range_with_len, sum_by-map-range_with_len_more, fill_by_all}
 use Rattle.std.proofs.lemmas.List.{drop_more, drop-drop, drop_all, get_or-drop, get_or-take, get_or_past}
 use Rattle.std.proofs.lemmas.Bool.{ne_eqb, cases_lt}
-use Rattle.image.specs.declared.quay.Quay.{Quay}
 use Rattle.timetable.specs.declared.sailing.Sailing.{Sailing}
 use Rattle.image.specs.declared.series.Series.{Series}
 use Rattle.image.specs.Records.{number_at, quay-at, entry_at, quays_in, entries_in, quay_at, sailing_at, series_at, quays_of, sailings_of, series_of}
 use Rattle.image.specs.Checks.{places_to, from_before}
-use Rattle.image.specs.Layout.{two, letters, heading_bytes, quay_bytes, sailing_bytes, series_bytes, layout}
-use Rattle.image.specs.Limits.{QuayKept, SailingKept, SeriesKept, Rises, QuaysKept, PrintedKept, ClockKept}
+use Rattle.image.specs.Layout.{letters, heading_bytes, quay_bytes, sailing_bytes, series_bytes, layout}
+use Rattle.image.specs.Limits.{QuayKept, SailingKept, SeriesKept, Rises, QuaysKept}
 use Rattle.image.specs.Images.{PrintedOf, ClockOf}
-use Rattle.image.proofs.Good.{Frame, Ends, Rhythm, SailingGood, SeriesGood, QuayGood, HeadingGood, ImageGood, PrintedGood, ClockGood}
+use Rattle.image.proofs.Good.{Frame, Ends, Rhythm, QuayGood, HeadingGood, ImageGood, PrintedGood, ClockGood}
 use Rattle.image.proofs.Cuts.{two_then, rows_then, all-rows}
 
 abbrev pub Small : List ℕ → Type 0

@@ -1,5 +1,5 @@
 -- The check passes exactly the images that are allowed, and else tells the first fault. Assumes nothing.
-use Rattle.std.proofs.Common.{◌≡◌, ℕ, ◌+◌, ◌<◌, ◌≤◌, Bool, true, false, cond, ◌&&◌, eqb, leb, ◌⊎◌, List, length, get_or, is_ok, Ok, Err, Decides, MatchBool, Result, sym, refl, ap, ◌∙◌, subst, inl, inr, ⊎_elim, arith}
+use Rattle.std.proofs.Common.{◌≡◌, ℕ, Bool, true, false, cond, List, is_ok, Ok, Err, Decides, MatchBool, Result, refl, ap, ⊎_elim, arith}
 use Rattle.std.specs.Result.{result_and}
 use Rattle.std.proofs.lemmas.Bool.{cases_Bool}
 use Rattle.std.proofs.lemmas.Bool.Decides.{nat_tests}
@@ -7,10 +7,9 @@ use Rattle.image.specs.declared.fault.Fault.{Fault}
 use Rattle.image.specs.declared.fault.Kind.{Kind}
 use Rattle.image.specs.declared.fault.Kind.TheVariants.{Printed, ClockFace}
 use Rattle.image.specs.Checks.{Check, printed_check, clock_check, is_clock, image_check}
-use Rattle.image.specs.Records.{number_at}
 use Rattle.image.specs.Images.{PrintedOf, ClockOf, Tells}
 use Rattle.image.specs.Faults.{PrintedWrong, ClockWrong, Wrong, Told}
-use Rattle.image.proofs.Good.{Frame, PrintedGood, ClockGood, printed-good, printed-right, clock_good, clock_right}
+use Rattle.image.proofs.Good.{printed-good, printed-right, clock_good, clock_right}
 use Rattle.image.proofs.Contained.{Small, printed-content, clock_content}
 use Rattle.image.proofs.Laid.{printed-held, clock_held}
 use Rattle.image.proofs.Finds.{printed-first, clock_first}

@@ -1,5 +1,5 @@
 -- A check finds the first of all that is wrong. Assumes nothing.
-use Rattle.std.proofs.Common.{◌≡◌, ℕ, zero, suc, ◌+◌, ◌-◌, ◌*◌, ◌<◌, ◌≤◌, Bool, true, false, cond, not, ◌&&◌, eqb, ltb, leb, ◌⊎◌, List, length, get_or, Ok, Err, MatchBool, sym, refl, ap, ◌∙◌, subst, inl, inr, ⊎_elim, mul-zero, mul-suc, arith}
+use Rattle.std.proofs.Common.{◌≡◌, ℕ, zero, suc, ◌+◌, ◌*◌, ◌<◌, ◌≤◌, Bool, true, false, not, ◌&&◌, eqb, ltb, leb, ◌⊎◌, List, length, get_or, Ok, Err, sym, refl, ap, ◌∙◌, subst, inl, inr, ⊎_elim, mul-zero, mul-suc, arith}
 use Rattle.std.specs.Result.{result_and}
 use Rattle.std.proofs.lemmas.Bool.{cases_eq}
 use Rattle.std.proofs.lemmas.Bool.Decides.{nat_tests}
@@ -8,12 +8,11 @@ use Rattle.timetable.specs.declared.refusal.Refusal.{Refusal}
 use Rattle.timetable.specs.declared.refusal.Refusal.TheVariants.{CutOff, NotDue, OutOfLimits, FromFalls, BytesFollow, SeriesLeaves}
 use Rattle.image.specs.declared.fault.Part.{Part}
 use Rattle.image.specs.declared.fault.Part.TheVariants.{Heading, Quays, Entries, End}
-use Rattle.image.specs.Checks.{Check, unless, up_to, fault, frame, heading, zero_byte, quay, quay_head, name_byte, ends, from_before, times, sailing, rhythm, keeps, counts, places_to, series, ending, printed_check, clock_check, is_clock}
+use Rattle.image.specs.Checks.{Check, unless, up_to, fault, frame, heading, zero_byte, quay, name_byte, ends, from_before, sailing, rhythm, keeps, counts, places_to, series, ending, printed_check, clock_check}
 use Rattle.image.specs.Records.{number_at, quay-at, entry_at, quays_in, entries_in}
 use Rattle.timetable.specs.Refusals.{number_of}
-use Rattle.image.specs.Faults.{Before, Is, Not, FrameWrong, SomeRow, HeadingWrong, QuayWrong, EndsWrong, SailingWrong, SeriesLeaving, RhythmWrong, CountsWrong, SeriesWrong, PrintedWrong, ClockWrong, Wrong, First, Told}
+use Rattle.image.specs.Faults.{Before, Is, Not, FrameWrong, SomeRow, HeadingWrong, QuayWrong, EndsWrong, SailingWrong, SeriesLeaving, RhythmWrong, CountsWrong, SeriesWrong, PrintedWrong, ClockWrong, First, Told}
 use Rattle.timetable.proofs.Numbers.{number_below}
-use Rattle.image.proofs.Walks.{both_ok, check_cases}
 
 abbrev weight : Fault → ℕ
 weight g = 64 * g.byte + number_of g.refusal

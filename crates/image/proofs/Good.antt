@@ -1,12 +1,10 @@
 -- What a record that passes the check holds. Assumes nothing.
-use Rattle.std.proofs.Common.{◌≡◌, ℕ, zero, suc, ◌+◌, ◌-◌, ◌*◌, ◌<◌, ◌≤◌, Bool, true, false, cond, not, ◌&&◌, eqb, ltb, leb, ◌⊎◌, List, length, get_or, is_ok, Ok, Err, sym, refl, ap, ◌∙◌, subst, inl, inr, ⊎_elim, add-one, arith}
-use Rattle.std.specs.Result.{result_and}
-use Rattle.std.proofs.lemmas.Bool.{cases_eq, eqb-true, lt-ltb, le-ltb, le-leb, eq-eqb, ne_eqb}
+use Rattle.std.proofs.Common.{◌≡◌, ℕ, ◌+◌, ◌-◌, ◌*◌, ◌<◌, ◌≤◌, ◌&&◌, leb, List, length, get_or, Ok, add-one, arith}
+use Rattle.std.proofs.lemmas.Bool.{lt-ltb, le-leb, eq-eqb, ne_eqb}
 use Rattle.std.proofs.lemmas.Bool.Decides.{nat_tests}
-use Rattle.image.specs.declared.fault.Fault.{Fault}
 use Rattle.image.specs.declared.fault.Part.{Part}
 use Rattle.image.specs.declared.fault.Part.TheVariants.{Entries, Quays, Heading}
-use Rattle.image.specs.Checks.{Check, unless, up_to, heading, zero_byte, quay, quay_head, name_byte, frame, ends, from_before, times, sailing, rhythm, keeps, counts, places_to, series, ending, printed_check, clock_check, is_clock}
+use Rattle.image.specs.Checks.{unless, up_to, heading, zero_byte, quay, quay_head, name_byte, frame, ends, from_before, sailing, rhythm, counts, places_to, series, ending, printed_check, clock_check}
 use Rattle.image.specs.Records.{number_at, quay-at, entry_at, quays_in, entries_in}
 use Rattle.image.proofs.Walks.{both_ok, up_to-all, up_to-each}
 

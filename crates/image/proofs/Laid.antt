@@ -1,21 +1,21 @@
 -- The bytes of a content within the limits hold that content, and pass the check. Assumes nothing.
-use Rattle.std.proofs.Common.{◌≡◌, ℕ, zero, suc, ◌+◌, ◌-◌, ◌*◌, ◌/◌, ◌%◌, ◌<◌, ◌≤◌, ◌⊎◌, List, [], ◌∷◌, ◌++◌, map, length, get_or, take, drop, replicate, sum_by, sym, refl, ap, ◌∙◌, subst, inl, inr, ⊎_elim, append_assoc, append-nil, add-zero, mul-le-mul_right, mul-zero, zero-add, mul-suc, add-one, arith, length-append}
+use Rattle.std.proofs.Common.{◌≡◌, ℕ, zero, suc, ◌+◌, ◌-◌, ◌*◌, ◌<◌, ◌≤◌, List, [], ◌∷◌, ◌++◌, length, get_or, take, drop, replicate, sum_by, sym, refl, ap, ◌∙◌, append-nil, zero-add, mul-suc, add-one, arith, length-append}
 use lib.ListN.{get_or-replicate}
 use Rattle.std.specs.List.{flat_map, AllByRecursion as All}
 use Rattle.std.proofs.lemmas.List.FromFn.{get_or-map-range_with_len, fill_by_all}
-use Rattle.std.proofs.ByRecursion.{All-get_or, All-weaker}
-use Rattle.std.proofs.lemmas.List.{get_or-drop, get_or_append_left, take_at, take_all}
+use Rattle.std.proofs.ByRecursion.{All-get_or}
+use Rattle.std.proofs.lemmas.List.{get_or-drop, get_or_append_left, take_at}
 use Rattle.std.proofs.lemmas.List.Sums.{sum_by_more, sum_by-take-le}
-use Rattle.std.proofs.lemmas.Bool.{ne_eqb, eq-eqb, cases_eq}
+use Rattle.std.proofs.lemmas.Bool.{ne_eqb}
 use Rattle.image.specs.declared.quay.Quay.{Quay}
 use Rattle.timetable.specs.declared.sailing.Sailing.{Sailing}
 use Rattle.image.specs.declared.series.Series.{Series}
 use Rattle.image.specs.Records.{number_at, quay-at, entry_at, quays_in, entries_in, quay_at, sailing_at, series_at}
 use Rattle.image.specs.Checks.{places_to, from_before}
-use Rattle.image.specs.Layout.{two, letters, heading_bytes, quay_bytes, sailing_bytes, series_bytes, layout}
-use Rattle.image.specs.Limits.{QuayKept, SailingKept, SeriesKept, Rises, QuaysKept, PrintedKept, ClockKept}
+use Rattle.image.specs.Layout.{letters, heading_bytes, quay_bytes, sailing_bytes, series_bytes, layout}
+use Rattle.image.specs.Limits.{QuayKept, SailingKept, SeriesKept, Rises, QuaysKept}
 use Rattle.image.specs.Images.{PrintedOf, ClockOf}
-use Rattle.image.proofs.Good.{Frame, Ends, Rhythm, SailingGood, SeriesGood, QuayGood, HeadingGood, ImageGood, PrintedGood, ClockGood}
+use Rattle.image.proofs.Good.{Frame, QuayGood, HeadingGood, PrintedGood, ClockGood}
 use Rattle.image.proofs.Cuts.{read, row_in, length-joined}
 
 -- where the parts of a layout stand

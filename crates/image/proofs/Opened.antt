@@ -1,5 +1,5 @@
 -- Opening tells exactly what an image holds. Assumes nothing.
-use Rattle.std.proofs.Common.{◌≡◌, ℕ, true, false, cond, List, [], ◌∷◌, is_ok, sym, refl, ap, ◌∙◌, subst, ⊎_elim}
+use Rattle.std.proofs.Common.{◌≡◌, ℕ, cond, List, is_ok, ap, ◌∙◌, ⊎_elim}
 use Rattle.std.proofs.lemmas.Bool.{cases_Bool}
 use Rattle.image.specs.Checks.{printed_check, clock_check}
 use Rattle.image.specs.Images.{PrintedOf, ClockOf}

@@ -1,8 +1,7 @@
 -- The sailings of a printed image. Assumes nothing.
-use Rattle.std.proofs.Common.{◌≡◌, ℕ, ◌+◌, ◌<◌, ◌≤◌, true, List, map, length, get_or, is_ok, Some, None, Ok, Err, sym, refl, ap, ◌∙◌, subst, zero-add, arith}
+use Rattle.std.proofs.Common.{◌≡◌, ℕ, ◌+◌, ◌<◌, ◌≤◌, true, List, map, length, get_or, is_ok, Some, None, Ok, Err, refl, ap, ◌∙◌, arith}
 use lib.ListN.{length-map}
-use Rattle.std.specs.List.{range_with_len, AllByRecursion as All}
-use Rattle.std.proofs.lemmas.List.FromFn.{length-map-range_with_len, get_or-map-range_with_len}
+use Rattle.std.proofs.lemmas.List.FromFn.{length-map-range_with_len}
 use Rattle.std.proofs.ByRecursion.{All-map}
 use Rattle.std.proofs.lemmas.List.{get_or-map}
 use Rattle.timetable.specs.declared.sailing.Sailing.{Sailing}
@@ -17,9 +16,9 @@ use Rattle.image.proofs.Contained.{rises_in, row}
 use Rattle.image.proofs.Exact.{ok_is}
 use Rattle.timetable.specs.declared.refusal.Refusal.TheVariants.{NoPlace}
 use Rattle.image.proofs.Sorted.{Sorted, sorted_from, sorted_at, under-is}
-use Rattle.image.proofs.Lawfuls.{Limits, timetable-lawful}
+use Rattle.image.proofs.Lawfuls.{timetable-lawful}
 use Rattle.timetable.proofs.Told.{asked_in, asked_out}
-use Rattle.image.proofs.Tables.{quays_are, place-told}
+use Rattle.image.proofs.Tables.{quays_are}
 
 abbrev pub row_in : List ℕ → ℕ → Sailing
 row_in bs p = sailing_at bs (entry_at 16 (quays_in bs) p)

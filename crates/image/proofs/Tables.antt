@@ -1,5 +1,5 @@
 -- Questions about a row of a table. Assumes nothing.
-use Rattle.std.proofs.Common.{◌≡◌, ℕ, ◌+◌, ◌<◌, ◌≤◌, List, map, length, get_or, Some, None, Ok, Err, Option, sym, refl, ap, ◌∙◌, subst, ⊎_elim, zero-add, arith}
+use Rattle.std.proofs.Common.{◌≡◌, ℕ, ◌+◌, ◌<◌, ◌≤◌, List, map, length, get_or, Some, None, Ok, Err, sym, ap, ◌∙◌, ⊎_elim, zero-add, arith}
 use lib.ListN.{length-map}
 use Rattle.std.specs.List.{range_with_len}
 use Rattle.std.proofs.lemmas.List.FromFn.{length-map-range_with_len, get_or-map-range_with_len}
@@ -7,13 +7,11 @@ use Rattle.std.proofs.lemmas.List.{get_or-map, get_or_past}
 use Rattle.std.proofs.lemmas.Bool.{cases_lt}
 use Rattle.timetable.proofs.Told.{asked_in, asked_out}
 use Rattle.image.specs.Records.{number_at, quay-at, quays_in, quay_at, quays_of}
-use Rattle.timetable.specs.Timetables.{Timetable, nowhere}
-use Rattle.timetable.specs.Answers.{asked, change_of, place_of, span_of}
+use Rattle.timetable.specs.Timetables.{nowhere}
+use Rattle.timetable.specs.Answers.{change_of, place_of, span_of}
 use Rattle.image.specs.Meanings.{span_for, timetable, changes_of}
 use Rattle.timetable.specs.declared.sailing.Sailing.{Sailing}
-use Rattle.timetable.specs.declared.refusal.Refusal.{Refusal}
 use Rattle.timetable.specs.declared.refusal.Refusal.TheVariants.{NoQuay, NoPlace}
-use Rattle.timetable.specs.declared.span.Span.{Span}
 
 pub quays_are : (bs : List ℕ) → length (changes_of bs) ≡ quays_in bs
 quays_are bs = length-map (quays_of bs) (λ q. q.change) ∙ length-map-range_with_len (quay_at bs) 0 (quays_in bs)

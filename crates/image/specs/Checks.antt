@@ -1,5 +1,5 @@
 -- The check of an image, field by field in the order of the bytes, up to the first that is wrong. Assumes nothing.
-use Rattle.std.specs.Prelude.{◌≡◌, ℕ, zero, suc, ◌+◌, ◌-◌, ◌*◌, ◌<◌, ◌≤◌, Bool, cond, not, ◌&&◌, List, length, Ok, Err, Result, ◌==◌, nat_le, nat_lt, slice_index}
+use Rattle.std.specs.Prelude.{ℕ, zero, suc, ◌+◌, ◌-◌, ◌*◌, Bool, cond, not, ◌&&◌, List, length, Ok, Err, Result, ◌==◌, nat_le, nat_lt, slice_index}
 use Rattle.std.specs.Result.{result_and}
 use Rattle.image.specs.declared.fault.Fault.{Fault}
 use Rattle.timetable.specs.declared.refusal.Refusal.{Refusal}

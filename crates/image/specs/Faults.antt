@@ -1,7 +1,6 @@
 -- All that can be wrong with an image, in no order, and which of it comes first. Assumes nothing.
 use Rattle.std.specs.Prelude.{◌≡◌, ℕ, ◌+◌, ◌-◌, ◌*◌, ◌<◌, ◌≤◌, ◌⊎◌, List, length, Err, MatchBool, Result, slice_index}
 use Rattle.image.specs.declared.fault.Fault.{Fault}
-use Rattle.timetable.specs.declared.refusal.Refusal.{Refusal}
 use Rattle.timetable.specs.declared.refusal.Refusal.TheVariants.{CutOff, NotDue, OutOfLimits, FromFalls, BytesFollow, SeriesLeaves}
 use Rattle.image.specs.declared.fault.Part.{Part}
 use Rattle.image.specs.declared.fault.Part.TheVariants.{Heading, Quays, Entries, End}

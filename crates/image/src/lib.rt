@@ -1,4 +1,6 @@
 //! Images of books: their layout, and the check that passes exactly the images that the layout allows.
+#![tactic(auto)]
+
 pub mod check;
 mod clock_face;
 pub mod fault;

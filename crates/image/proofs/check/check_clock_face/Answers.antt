@@ -1,4 +1,4 @@
-use Rattle.std.proofs.Common.{◌≡◌, is_ok, Decides, sym, subst, arith}
+use Rattle.std.proofs.Common.{is_ok, Decides, sym, subst, arith}
 use Rattle.image.specs.Images.{ClockOf}
 use Rattle.image.specs.Faults.{Told, ClockWrong}
 use Rattle.image.proofs.Exact.{clock_exact}

@@ -1,4 +1,4 @@
-use Rattle.std.proofs.Common.{◌≡◌, sym, subst, arith}
+use Rattle.std.proofs.Common.{sym, subst, arith}
 use Rattle.image.specs.Images.{Tells}
 use Rattle.image.specs.Faults.{Told, Wrong}
 use Rattle.image.proofs.Exact.{image_tells, image_first}

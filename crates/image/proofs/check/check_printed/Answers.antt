@@ -1,4 +1,4 @@
-use Rattle.std.proofs.Common.{◌≡◌, is_ok, Decides, sym, subst, arith}
+use Rattle.std.proofs.Common.{is_ok, Decides, sym, subst, arith}
 use Rattle.image.specs.Images.{PrintedOf}
 use Rattle.image.specs.Faults.{Told, PrintedWrong}
 use Rattle.image.proofs.Exact.{printed-exact}

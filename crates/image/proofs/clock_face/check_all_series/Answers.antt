@@ -1,4 +1,4 @@
-use Rattle.std.proofs.Common.{sym, ◌∙◌, add-one, arith}
+use Rattle.std.proofs.Common.{sym, arith}
 use Rattle.std.proofs.lemmas.Result.{err_from_is_err_and}
 use Rattle.image.specs.Checks.{series}
 use Rattle.image.proofs.Walks.{up_to-more, up_to-fault}
@@ -10,7 +10,7 @@ number_at-requires c = omega (arith, series-inside c.args.bytes.now c.args.quays
 
 pub returns-in_err-check_series : goal.returns-in_err-check_series
 returns-in_err-check_series c =
-    let p = err_from_is_err_and c.from-residual.result c.from-residual.ensures.1 in
+    let p = err_from_is_err_and c.from_residual.result c.from_residual.ensures.1 in
     rw (p.1, p.2) (sym (up_to-fault (series c.args.bytes.now c.args.quays) c.loop-row.row c.args.entries _ c.loop-row-test.true c.loop-row.invariant.0 (sym c.in_err-check_series.ensures)))
 
 pub loop-row-preserved : goal.loop-row-preserved

@@ -1,4 +1,4 @@
-use Rattle.std.proofs.Common.{sym, ◌∙◌}
+use Rattle.std.proofs.Common.{sym}
 use Rattle.std.proofs.lemmas.Result.{err_from_is_err_and}
 use Rattle.image.specs.Checks.{sailing}
 use Rattle.image.proofs.Walks.{up_to-more, up_to-fault}
@@ -6,7 +6,7 @@ use Rattle.image.proofs.printed.check_sailings.Goals as goal
 
 pub returns-in_err-check_sailing : goal.returns-in_err-check_sailing
 returns-in_err-check_sailing c =
-    let p = err_from_is_err_and c.from-residual.result c.from-residual.ensures.1 in
+    let p = err_from_is_err_and c.from_residual.result c.from_residual.ensures.1 in
     rw (p.1, p.2) (sym (up_to-fault (sailing c.args.bytes.now c.args.quays) c.loop-row.row c.args.entries _ c.loop-row-test.true c.loop-row.invariant (sym c.in_err-check_sailing.ensures)))
 
 pub loop-row-preserved : goal.loop-row-preserved
