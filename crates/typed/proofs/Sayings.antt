@@ -1,14 +1,13 @@
 -- The answer tells what a typed line says. Assumes nothing.
-use Rattle.std.proofs.Common.{◌≡◌, ℕ, suc, ◌<◌, ◌≤◌, Bool, true, false, cond, eqb, ltb, ◌⊎◌, List, [], ◌∷◌, length, get_or, take, Some, None, Ok, Err, Option, Result, sym, refl, ap, ◌∙◌, subst, inl, inr, ⊎_elim, arith}
-use Rattle.std.specs.Result.{result_map_both}
+use Rattle.std.proofs.Common.{◌≡◌, ℕ, ◌<◌, ◌≤◌, cond, eqb, ltb, ◌⊎◌, List, [], ◌∷◌, length, get_or, take, Some, None, Ok, Err, Option, Result, sym, refl, ap, ◌∙◌, subst, inl, inr, ⊎_elim, arith}
 use Rattle.std.proofs.lemmas.Bool.{cases_lt, lt-ltb, le-ltb, ne_eqb, cond-true, cond-false}
 use Rattle.timetable.specs.declared.refusal.Refusal.{Refusal}
 use Rattle.timetable.specs.declared.refusal.Refusal.TheVariants.{NoLetter, NoNumber, Surplus, LongLine}
 use Rattle.typed.specs.declared.command.Command.{Command}
 use Rattle.typed.specs.declared.command.Command.TheVariants.{Withhold, Release, Shut, Open, Thin, Route}
 use Rattle.typed.specs.Commands.{by_letter, command_of}
-use Rattle.typed.specs.Forms.{letter_of, numbers_of, due, Stand}
-use Rattle.typed.specs.Saying.{Begins, Asks, Unlettered, Misses, Exceeds, Answers, Says}
+use Rattle.typed.specs.Forms.{letter_of, numbers_of, due}
+use Rattle.typed.specs.Saying.{Begins, Asks, Misses, Exceeds, Says}
 use Rattle.typed.proofs.Counted.{numbers, read-stand, stand_read, few-tells, few-told, many-tells, many-told, wrong}
 use Rattle.typed.proofs.Lettering.{numbers_in, Way, way}
 

@@ -1,5 +1,5 @@
 -- What a typed line asks for. Assumes nothing.
-use Rattle.std.specs.Prelude.{ℕ, cond, List, length, Ok, Err, Result, ◌==◌, nat_lt, slice_index}
+use Rattle.std.specs.Prelude.{ℕ, cond, List, length, Err, Result, ◌==◌, nat_lt, slice_index}
 use Rattle.std.specs.Result.{result_map_both}
 use Rattle.timetable.specs.declared.refusal.Refusal.{Refusal}
 use Rattle.timetable.specs.declared.refusal.Refusal.TheVariants.{NoLetter, LongLine}

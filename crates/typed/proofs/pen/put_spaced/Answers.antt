@@ -1,4 +1,4 @@
-use Rattle.std.proofs.Common.{◌≡◌, List, [], ◌∷◌, ◌++◌, length, take, sym, ap, ◌∙◌, arith}
+use Rattle.std.proofs.Common.{[], ◌∷◌, ◌++◌, take, ap, ◌∙◌, arith}
 use Rattle.std.proofs.lemmas.List.{append_assoc}
 use Rattle.typed.specs.Digits.{digits}
 use Rattle.typed.proofs.Spelling.{few-digits}
@@ -14,5 +14,5 @@ returns c =
     record {
       bound = omega (arith, few-digits n (omega arith));
       end = omega arith;
-      front = c.put_digits.ensures.front ∙ (ap (λ xs. xs ++ digits n) c.put_digits-at.ensures.front ∙ append_assoc front (32 ∷ []) (digits n));
+      front = c.put_digits.ensures.front ∙ (ap (λ xs. xs ++ digits n) c.put-digits_at.ensures.front ∙ append_assoc front (32 ∷ []) (digits n));
     }
