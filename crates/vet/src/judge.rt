@@ -13,7 +13,7 @@ use timetable::sailing::Sailing;
 
 // The sailing in force at a place, if any.
 fn sailing_at<B: Book>(book: &B, place: u16) -> Option<Sailing>
-    ensures { result ≡ place_at (meaning book.now) place }
+    ensures { result ≡ place_at (B.meaning book.now) place }
 {
     match book.place(place) {
         Ok(content) => content,
@@ -56,7 +56,7 @@ fn board(here: Standing, leg: Leg, s: Sailing) -> Result<Sailing, Refusal>
 }
 
 pub(crate) fn judge<B: Book>(book: &B, here: Standing, leg: Leg) -> Result<Sailing, Refusal>
-    ensures { result ≡ judged (meaning book.now) (stand_of here) leg }
+    ensures { result ≡ judged (B.meaning book.now) (stand_of here) leg }
 {
     match sailing_at(book, leg.place) {
         Some(s) => board(here, leg, s),

@@ -22,7 +22,7 @@ pub(crate) fn extra_of(class: u16) -> u16
 }
 
 fn change_at<B: Book>(book: &B, quay: u16) -> u16
-    ensures { result ≡ change_at (meaning book.now) quay }
+    ensures { result ≡ change_at (B.meaning book.now) quay }
 {
     match book.change(quay) {
         Ok(minutes) => minutes,
@@ -43,7 +43,7 @@ pub(crate) fn at_start(query: Query) -> Standing
 
 // After the arrival with s, of cargo that adds `extra` minutes to each change.
 pub(crate) fn after_leg<B: Book>(book: &B, s: Sailing, arrives: u32, extra: u16) -> Standing
-    ensures { stand_of result ≡ after (meaning book.now) extra s arrives }
+    ensures { stand_of result ≡ after (B.meaning book.now) extra s arrives }
 {
     Standing {
         quay: s.to,

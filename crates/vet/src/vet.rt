@@ -32,7 +32,7 @@ fn cause(query: Query, quays: u16) -> Option<Refusal>
 
 // Follows the load along the legs, up to the first that is wrong.
 fn walk<B: Book>(book: &B, query: Query, plan: &[Leg]) -> Verdict
-    ensures { result ≡ verdict_on (meaning book.now) query plan.now }
+    ensures { result ≡ verdict_on (B.meaning book.now) query plan.now }
 {
     let extra = extra_of(query.class);
     let mut here = at_start(query);
@@ -55,7 +55,7 @@ fn walk<B: Book>(book: &B, query: Query, plan: &[Leg]) -> Verdict
 }
 
 fn answer<B: Book>(book: &B, query: Query, plan: &[Leg]) -> Result<Verdict, Refusal>
-    ensures { result ≡ vetted (meaning book.now) query plan.now }
+    ensures { result ≡ vetted (B.meaning book.now) query plan.now }
 {
     match cause(query, book.quays()) {
         Some(refusal) => Err(refusal),
@@ -66,8 +66,8 @@ fn answer<B: Book>(book: &B, query: Query, plan: &[Leg]) -> Result<Verdict, Refu
 // Whether the plan is a journey for the query in the book, and then when it arrives; else its first wrong leg, with the lowest of the numbers that fit it.
 // A query that is wrong is refused before the plan is read.
 pub fn vet<B: Book>(book: &B, query: Query, plan: &[Leg]) -> Result<Verdict, Refusal>
-    ensures value { result ≡ vetted (meaning book.now) query plan.now }
-    ensures law { Vetted (meaning book.now) query plan.now result }
+    ensures value { result ≡ vetted (B.meaning book.now) query plan.now }
+    ensures law { Vetted (B.meaning book.now) query plan.now result }
 {
     answer(book, query, plan)
 }
