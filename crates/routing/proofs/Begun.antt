@@ -4,7 +4,6 @@ use Rattle.std.proofs.lemmas.List.{get_or_past, get_or-replicate, length-replica
 use Rattle.std.proofs.lemmas.Bool.{cases_lt}
 use Rattle.timetable.specs.declared.span.Span.{Span}
 use Rattle.timetable.specs.Timetables.{Timetable}
-use Rattle.timetable.specs.Answers.{asked}
 use Rattle.routing.specs.declared.ride.Ride.{Ride}
 use Rattle.routing.specs.declared.ride.Origin.TheVariants.{Start}
 use Rattle.routing.specs.declared.trip.Trip.{Trip}

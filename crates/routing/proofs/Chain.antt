@@ -11,7 +11,7 @@ use Rattle.timetable.proofs.Laws.{next-late, next-leaves}
 use Rattle.journey.specs.Journeys.{wait, after, Leads, Elsewhere, Apart}
 use Rattle.routing.specs.declared.ride.Ride.{Ride}
 use Rattle.routing.specs.declared.trip.Trip.{Trip}
-use Rattle.routing.specs.Labels.{Status, Unseen, Settled, look, ride_of, one, settled}
+use Rattle.routing.specs.Labels.{Status, Unseen, Settled, look, ride_of, settled}
 use Rattle.routing.specs.Trips.{Makes}
 use Rattle.routing.specs.Invariants.{From, Made}
 use Rattle.routing.specs.Turns.{Arrival}

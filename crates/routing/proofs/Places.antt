@@ -1,6 +1,5 @@
 -- One label is written, or left as it is. Assumes nothing.
 use Rattle.std.proofs.Common.{◌≡◌, ℕ, ◌<◌, true, false, List, length, get_or, set, Some, Option, sym, ap, ◌∙◌, arith}
-use Rattle.journey.specs.Journeys.{after}
 use Rattle.queue.specs.Lines.{set_in}
 use Rattle.routing.specs.declared.label.Label.{Label}
 use Rattle.routing.specs.declared.ride.Ride.{Ride}

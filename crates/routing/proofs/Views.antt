@@ -7,7 +7,6 @@ use Rattle.routing.specs.declared.label.State.{State}
 use Rattle.routing.specs.declared.ride.Ride.{Ride}
 use Rattle.routing.specs.Labels.{Status, Unseen, Waiting, Settled, ride_in, by_state, status_of, view, look, waiting_of, Linked}
 use Rattle.routing.specs.Turns.{Settles}
-use Rattle.routing.specs.declared.label.State as State
 
 pub view-length : (labels : List Label) → length (view labels) ≡ length labels
 view-length labels = length-map labels status_of

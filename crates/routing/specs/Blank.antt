@@ -2,7 +2,6 @@
 use Rattle.std.specs.Prelude.{false}
 use Rattle.routing.specs.declared.label.Label.{Label}
 use Rattle.routing.specs.declared.label.State.{State}
-use Rattle.routing.specs.declared.label.State as State
 
 abbrev pub blank_label : Label
 blank_label = record {

@@ -2,7 +2,6 @@
 use Rattle.std.specs.Prelude.{◌≡◌, ℕ, ◌+◌, ◌≤◌, Bool, true, false, cond, List, [], ◌∷◌, map, length, Some, None, Option, nat_lt, slice_index_or}
 use Rattle.routing.specs.declared.label.Label.{Label}
 use Rattle.routing.specs.declared.label.State.{State}
-use Rattle.routing.specs.declared.label.State as State
 use Rattle.routing.specs.declared.ride.Ride.{Ride}
 
 -- what is known of a place: nothing, a ride that may yet be bettered, or its earliest ride

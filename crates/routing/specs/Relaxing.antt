@@ -1,12 +1,10 @@
 -- What it is to go on from one place. Assumes nothing.
 use Rattle.std.specs.Prelude.{◌≡◌, ℕ, ◌+◌, ◌<◌, ◌≤◌, List, length, Some, None, Option, slice_index_or}
-use Rattle.timetable.specs.declared.sailing.Sailing.{Sailing}
 use Rattle.timetable.specs.declared.span.Span.{Span}
 use Rattle.timetable.specs.Classes.{most}
 use Rattle.timetable.specs.Times.{day}
 use Rattle.timetable.specs.Timetables.{Timetable, place_at, change_at, span_at, Lawful}
 use Rattle.journey.specs.Journeys.{Stand}
-use Rattle.routing.specs.declared.ride.Ride.{Ride}
 use Rattle.routing.specs.declared.ride.Origin.{Origin}
 use Rattle.routing.specs.declared.ride.Origin.TheVariants.{Start, Via}
 use Rattle.routing.specs.declared.trip.Trip.{Trip}

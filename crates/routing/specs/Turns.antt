@@ -1,8 +1,7 @@
 -- What each turn comes to. Assumes nothing.
 use Rattle.std.specs.Prelude.{◌≡◌, ℕ, ◌+◌, ◌<◌, ◌≤◌, List, length, Some, None, Option, ◌≢◌, slice_set}
-use Rattle.timetable.specs.declared.sailing.Sailing.{Sailing}
 use Rattle.timetable.specs.declared.span.Span.{Span}
-use Rattle.timetable.specs.Timetables.{Timetable, place_at, Lawful}
+use Rattle.timetable.specs.Timetables.{Timetable, Lawful}
 use Rattle.routing.specs.declared.explore.Turn.{Turn}
 use Rattle.routing.specs.declared.explore.Turn.TheVariants.{Empty, Arrived, Onward}
 use Rattle.routing.specs.declared.ride.Ride.{Ride}

@@ -28,10 +28,10 @@ pub(crate) fn prepare<B: Book, L: Line>(
     spans: &mut [Option<Span>],
     trip: Trip,
 )
-    requires asked { Asked (meaning book.now) trip (view labels.old) (keys line.old) }
+    requires asked { Asked (B.meaning book.now) trip (view labels.old) (L.keys line.old) }
     requires many { 256 ≤ length spans.old }
     requires closed { (v : ℕ) → slice_index_or spans.old v None ≡ None }
-    ensures { Going (meaning book.now) trip (view labels.new) (keys line.new) spans.new }
+    ensures { Going (B.meaning book.now) trip (view labels.new) (L.keys line.new) spans.new }
 {
     unlabel(labels);
     line.clear();

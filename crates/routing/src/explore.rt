@@ -25,8 +25,8 @@ pub enum Turn {
 
 // Settles the place that comes first in the line.
 fn settle_first<L: Line>(line: &mut L, labels: &mut [Label]) -> Option<(u16, Ride)>
-    requires { Linked (view labels.old) (keys line.old) }
-    ensures { SettledFirst (view labels.old) result (view labels.new) (keys line.new) }
+    requires { Linked (view labels.old) (L.keys line.old) }
+    ensures { SettledFirst (view labels.old) result (view labels.new) (L.keys line.new) }
 {
     let Some((place, _)) = line.take() else {
         return None;
@@ -37,7 +37,7 @@ fn settle_first<L: Line>(line: &mut L, labels: &mut [Label]) -> Option<(u16, Rid
 }
 
 fn change_at<B: Book>(book: &B, quay: u16) -> u16
-    ensures { result ≡ change_at (meaning book.now) quay }
+    ensures { result ≡ change_at (B.meaning book.now) quay }
 {
     match book.change(quay) {
         Ok(minutes) => minutes,
@@ -56,11 +56,11 @@ fn go_on<B: Book, L: Line>(
     ride: Ride,
     change: u32,
 )
-    requires ready { Ready (meaning book.now) trip (Via place ride change) (view labels.old) (keys line.old) }
-    requires many { length (meaning book.now).changes ≤ length spans.old }
-    requires opened { Opened (meaning book.now) trip (view labels.old) spans.old ride.arrives }
-    ensures through { Through (meaning book.now) trip (Via place ride change) (view labels.old) (view labels.new) (keys line.new) 0 (length (meaning book.now).places) }
-    ensures opened { Opened (meaning book.now) trip (view labels.new) spans.new ride.arrives }
+    requires ready { Ready (B.meaning book.now) trip (Via place ride change) (view labels.old) (L.keys line.old) }
+    requires many { length (B.meaning book.now).changes ≤ length spans.old }
+    requires opened { Opened (B.meaning book.now) trip (view labels.old) spans.old ride.arrives }
+    ensures through { Through (B.meaning book.now) trip (Via place ride change) (view labels.old) (view labels.new) (L.keys line.new) 0 (length (B.meaning book.now).places) }
+    ensures opened { Opened (B.meaning book.now) trip (view labels.new) spans.new ride.arrives }
 {
     match spans[ride.sailing.to as usize] {
         Some(span) => follow_span(book, line, labels, trip, place, ride, change, span),
@@ -83,8 +83,8 @@ fn take_turn<B: Book, L: Line>(
     spans: &mut [Option<Span>],
     trip: Trip,
 ) -> Turn
-    requires { Going (meaning book.now) trip (view labels.old) (keys line.old) spans.old }
-    ensures { Turned (meaning book.now) trip (view labels.old) result (view labels.new) (keys line.new) spans.new }
+    requires { Going (B.meaning book.now) trip (view labels.old) (L.keys line.old) spans.old }
+    ensures { Turned (B.meaning book.now) trip (view labels.old) result (view labels.new) (L.keys line.new) spans.new }
 {
     let Some((place, ride)) = settle_first(line, labels) else {
         return Turn::Empty;
@@ -105,8 +105,8 @@ pub(crate) fn explore<B: Book, L: Line>(
     spans: &mut [Option<Span>],
     trip: Trip,
 ) -> Option<(u16, Ride)>
-    requires { Going (meaning book.now) trip (view labels.old) (keys line.old) spans.old }
-    ensures { Explored (meaning book.now) trip result (view labels.new) }
+    requires { Going (B.meaning book.now) trip (view labels.old) (L.keys line.old) spans.old }
+    ensures { Explored (B.meaning book.now) trip result (view labels.new) }
 {
     'turns: loop {
         match take_turn(book, line, labels, spans, trip) {

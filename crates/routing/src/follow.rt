@@ -28,9 +28,9 @@ fn waiting_at(labels: &[Label], place: u16) -> Option<Ride>
 // Labels the place with the ride, if that is better. It is a twin of `relax_place`: a function of one call is compiled into its caller.
 fn renew_place<L: Line>(line: &mut L, labels: &mut [Label], place: u16, ride: Ride)
     requires inside { place < length (view labels.old) }
-    requires linked { Linked (view labels.old) (keys line.old) }
+    requires linked { Linked (view labels.old) (L.keys line.old) }
     ensures after { view labels.new ≡ slice_set (view labels.old) place (reach (look (view labels.old) place) ride) }
-    ensures linked { Linked (view labels.new) (keys line.new) }
+    ensures linked { Linked (view labels.new) (L.keys line.new) }
 {
     if is_sooner(labels[place as usize], ride) {
         labels[place as usize] = waiting_label(ride);
@@ -50,10 +50,10 @@ fn follow<B: Book, L: Line>(
     change: u32,
     place: u16,
 )
-    requires ready { Ready (meaning book.now) trip (Via k ridden change) (view labels.old) (keys line.old) }
+    requires ready { Ready (B.meaning book.now) trip (Via k ridden change) (view labels.old) (L.keys line.old) }
     requires inside { place < length (view labels.old) }
-    requires late { Covers (meaning book.now) (view labels.old) (late (meaning book.now) trip ridden.sailing.to ridden.arrives) 0 (length (meaning book.now).places) }
-    ensures { Through (meaning book.now) trip (Via k ridden change) (view labels.old) (view labels.new) (keys line.new) place (place + 1) }
+    requires late { Covers (B.meaning book.now) (view labels.old) (late (B.meaning book.now) trip ridden.sailing.to ridden.arrives) 0 (length (B.meaning book.now).places) }
+    ensures { Through (B.meaning book.now) trip (Via k ridden change) (view labels.old) (view labels.new) (L.keys line.new) place (place + 1) }
 {
     if let Some(waiting) = waiting_at(labels, place) {
         if waiting.sailing.continues(ridden.sailing) {
@@ -78,10 +78,10 @@ pub(crate) fn follow_span<B: Book, L: Line>(
     change: u32,
     span: Span,
 )
-    requires ready { Ready (meaning book.now) trip (Via k ridden change) (view labels.old) (keys line.old) }
+    requires ready { Ready (B.meaning book.now) trip (Via k ridden change) (view labels.old) (L.keys line.old) }
     requires order { (span.start ≤ span.end) × (span.end ≤ length (view labels.old)) }
-    requires late { Covers (meaning book.now) (view labels.old) (late (meaning book.now) trip ridden.sailing.to ridden.arrives) 0 (length (meaning book.now).places) }
-    ensures { Through (meaning book.now) trip (Via k ridden change) (view labels.old) (view labels.new) (keys line.new) span.start span.end }
+    requires late { Covers (B.meaning book.now) (view labels.old) (late (B.meaning book.now) trip ridden.sailing.to ridden.arrives) 0 (length (B.meaning book.now).places) }
+    ensures { Through (B.meaning book.now) trip (Via k ridden change) (view labels.old) (view labels.new) (L.keys line.new) span.start span.end }
 {
     for place in span.start..span.end {
         follow(book, line, labels, trip, k, ridden, change, place);

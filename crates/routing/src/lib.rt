@@ -1,4 +1,6 @@
 //! The earliest journey for a query, over any book and any waiting line.
+#![tactic(auto)]
+
 mod begin;
 mod explore;
 mod follow;

@@ -27,9 +27,9 @@ pub(crate) fn is_sooner(label: Label, ride: Ride) -> bool
 // Labels the place with the ride, if that is better.
 fn relax_place<L: Line>(line: &mut L, labels: &mut [Label], place: u16, ride: Ride)
     requires inside { place < length (view labels.old) }
-    requires linked { Linked (view labels.old) (keys line.old) }
+    requires linked { Linked (view labels.old) (L.keys line.old) }
     ensures after { view labels.new ≡ slice_set (view labels.old) place (reach (look (view labels.old) place) ride) }
-    ensures linked { Linked (view labels.new) (keys line.new) }
+    ensures linked { Linked (view labels.new) (L.keys line.new) }
 {
     if is_sooner(labels[place as usize], ride) {
         labels[place as usize] = waiting_label(ride);
@@ -39,7 +39,7 @@ fn relax_place<L: Line>(line: &mut L, labels: &mut [Label], place: u16, ride: Ri
 
 // The sailing at a place of the book, if any.
 fn sailing_at<B: Book>(book: &B, place: u16) -> Option<Sailing>
-    ensures { result ≡ place_at (meaning book.now) place }
+    ensures { result ≡ place_at (B.meaning book.now) place }
 {
     match book.place(place) {
         Ok(content) => content,
@@ -56,8 +56,8 @@ fn relax<B: Book, L: Line>(
     origin: Origin,
     place: u16,
 )
-    requires { Ready (meaning book.now) trip origin (view labels.old) (keys line.old) }
-    ensures { Through (meaning book.now) trip origin (view labels.old) (view labels.new) (keys line.new) place (place + 1) }
+    requires { Ready (B.meaning book.now) trip origin (view labels.old) (L.keys line.old) }
+    ensures { Through (B.meaning book.now) trip origin (view labels.old) (view labels.new) (L.keys line.new) place (place + 1) }
 {
     if let Some(s) = sailing_at(book, place) {
         if s.from == quay_of(origin) {
@@ -75,9 +75,9 @@ fn relax_span<B: Book, L: Line>(
     origin: Origin,
     span: Span,
 )
-    requires ready { Ready (meaning book.now) trip origin (view labels.old) (keys line.old) }
+    requires ready { Ready (B.meaning book.now) trip origin (view labels.old) (L.keys line.old) }
     requires order { span.start ≤ span.end }
-    ensures { Through (meaning book.now) trip origin (view labels.old) (view labels.new) (keys line.new) span.start span.end }
+    ensures { Through (B.meaning book.now) trip origin (view labels.old) (view labels.new) (L.keys line.new) span.start span.end }
 {
     for place in span.start..span.end {
         relax(book, line, labels, trip, origin, place);
@@ -93,11 +93,11 @@ pub(crate) fn open_quay<B: Book, L: Line>(
     trip: Trip,
     origin: Origin,
 )
-    requires ready { Ready (meaning book.now) trip origin (view labels.old) (keys line.old) }
-    requires many { length (meaning book.now).changes ≤ length spans.old }
-    requires opened { Opened (meaning book.now) trip (view labels.old) spans.old (minute_of origin) }
-    ensures through { Through (meaning book.now) trip origin (view labels.old) (view labels.new) (keys line.new) 0 (length (meaning book.now).places) }
-    ensures opened { Opened (meaning book.now) trip (view labels.new) spans.new (minute_of origin) }
+    requires ready { Ready (B.meaning book.now) trip origin (view labels.old) (L.keys line.old) }
+    requires many { length (B.meaning book.now).changes ≤ length spans.old }
+    requires opened { Opened (B.meaning book.now) trip (view labels.old) spans.old (minute_of origin) }
+    ensures through { Through (B.meaning book.now) trip origin (view labels.old) (view labels.new) (L.keys line.new) 0 (length (B.meaning book.now).places) }
+    ensures opened { Opened (B.meaning book.now) trip (view labels.new) spans.new (minute_of origin) }
 {
     let quay = quay_of(origin);
     if let Ok(span) = book.span(quay) {

@@ -60,9 +60,9 @@ fn find<B: Book, L: Line>(
     legs: &mut [Leg],
     query: Query,
 ) -> Option<Found>
-    requires asked { Asked (meaning book.now) (trip_of query) (view labels.old) (keys line.old) }
-    requires room { length (meaning book.now).places ≤ length legs.old }
-    ensures { Tells (meaning book.now) query legs.old legs.new result }
+    requires asked { Asked (B.meaning book.now) (trip_of query) (view labels.old) (L.keys line.old) }
+    requires room { length (B.meaning book.now).places ≤ length legs.old }
+    ensures { Tells (B.meaning book.now) query legs.old legs.new result }
 {
     let trip = trip_of(query);
     let mut spans: [Option<Span>; MOST_QUAYS] = [None; MOST_QUAYS];
@@ -86,7 +86,7 @@ pub fn route<B: Book, L: Line>(
     legs: &mut [Leg],
     query: Query,
 ) -> Result<Option<Found>, Refusal>
-    ensures { Routed (meaning book.now) query (lent (keys line.old) labels.old legs.old) (lent (keys line.new) labels.new legs.new) result }
+    ensures { Routed (B.meaning book.now) query (lent (L.keys line.old) labels.old legs.old) (lent (L.keys line.new) labels.new legs.new) result }
 {
     let places = book.places() as usize;
     if let Some(refusal) = cause(

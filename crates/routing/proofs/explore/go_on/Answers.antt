@@ -1,7 +1,6 @@
 use Rattle.std.proofs.Common.{arith}
 use Rattle.routing.specs.declared.ride.Origin.TheVariants.{Via}
 use Rattle.routing.specs.Labels.{view}
-use Rattle.routing.specs.Relaxing.{late}
 use Rattle.routing.proofs.Opens.{opened-better}
 use Rattle.routing.proofs.Turned.{span-order, span-end, whole, origin_quay}
 use Rattle.routing.proofs.explore.go_on.Goals as goal

@@ -7,8 +7,8 @@ use Rattle.routing.proofs.explore.settle_first.Goals as goal
 pub returns-in_default : goal.returns-in_default
 returns-in_default g c = none_first (view c.args.labels.now) (g.L.Line.keys c.args.line.now) c.requires c.in_default.ensures.0
 
-pub slice-copy-out·ride_in : goal.slice-copy-out·ride_in
-slice-copy-out·ride_in g c =
+pub slice_copy_out-ride_in : goal.slice_copy_out-ride_in
+slice_copy_out-ride_in g c =
     omega (arith, first-inside (view c.args.labels.now) (g.L.Line.keys c.args.line.now) c.in-Some.place _ c.requires c.in-Some.ensures.0, view-length c.args.labels.now)
 
 pub bounds-labels-place : goal.bounds-labels-place

@@ -26,5 +26,5 @@ returns g c =
     c.in-Some.place c.in-Some.ride (view c.settle_first.new.labels) (g.L.Line.keys c.settle_first.new.line) c.in-Some.ensures _
     (omega (arith, c.change_at.ensures, c.from.ensures)) c.if-ride-trip.false _ _ _ (omega arith) c.go_on.ensures.opened c.go_on.ensures.through
 
-pub overflow-add-change : goal.overflow-add-change
-overflow-add-change g c = omega (arith, c.requires.fair.extra, c.from.ensures)
+pub overflow_add-change : goal.overflow_add-change
+overflow_add-change g c = omega (arith, c.requires.fair.extra, c.from.ensures)

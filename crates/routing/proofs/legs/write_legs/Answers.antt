@@ -1,14 +1,14 @@
 use Rattle.std.proofs.Common.{◌≡◌, ◌≤◌, length, sym, refl, ap, ◌∙◌, arith}
 use Rattle.routing.specs.Labels.{Status, Settled, view, look}
-use Rattle.routing.proofs.Chain.{written, settled-inside, made_pos, walk_starts, walk_goes, walk_ends, walk_has, walk_less, walk_rest}
+use Rattle.routing.proofs.Chain.{settled-inside, made_pos, walk_starts, walk_goes, walk_ends, walk_has, walk_less, walk_rest}
 use Rattle.routing.proofs.Views.{view-length, settled_in}
 use Rattle.routing.proofs.legs.write_legs.Goals as goal
 
 pub back-init : goal.back-init
 back-init c = ((λ T q arrival. walk_starts T q (view c.args.labels.now) c.args.last c.args.ride arrival c.args.legs.now c.requires.room), refl)
 
-pub overflow-sub-cur : goal.overflow-sub-cur
-overflow-sub-cur c =
+pub overflow_sub-cur : goal.overflow_sub-cur
+overflow_sub-cur c =
     let (T, q, arrival) = c.requires.known in
     let w = c.back.invariant.0 T q arrival in
     made_pos T q (view c.args.labels.now) c.back.at c.back.cur w.made

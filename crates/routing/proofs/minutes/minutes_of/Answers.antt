@@ -2,7 +2,6 @@ use Rattle.std.proofs.Common.{⊎_elim, arith}
 use Rattle.std.proofs.lemmas.Bool.{cases_eq}
 use Rattle.timetable.specs.Times.{length_of}
 use Rattle.timetable.proofs.Laws.{length_cycle, cycle_one}
-use Rattle.routing.specs.Labels.{one}
 use Rattle.routing.proofs.minutes.minutes_of.Goals as goal
 
 pub returns : goal.returns

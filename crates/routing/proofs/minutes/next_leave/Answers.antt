@@ -2,8 +2,6 @@ use Rattle.std.proofs.Common.{◌≡◌, ◌+◌, ◌-◌, ◌*◌, ◌/◌, ◌
 use Rattle.std.proofs.lemmas.Bool.{cases_eq}
 use Rattle.timetable.specs.Times.{day, next}
 use Rattle.timetable.proofs.Laws.{next-is, next_one}
-use Rattle.routing.specs.Labels.{one}
-use Rattle.routing.specs.Relaxing.{late}
 use Rattle.routing.proofs.minutes.next_leave.Goals as goal
 
 pub returns : goal.returns

@@ -3,8 +3,8 @@ use Rattle.routing.proofs.Places.{stays, renewed}
 use Rattle.routing.proofs.Views.{view-length}
 use Rattle.routing.proofs.relax.relax_place.Goals as goal
 
-pub slice-copy-out·is_sooner : goal.slice-copy-out·is_sooner
-slice-copy-out·is_sooner g c = omega (arith, c.requires.inside, view-length c.args.labels.now)
+pub slice_copy_out-is_sooner : goal.slice_copy_out-is_sooner
+slice_copy_out-is_sooner g c = omega (arith, c.requires.inside, view-length c.args.labels.now)
 
 pub bounds-labels-place : goal.bounds-labels-place
 bounds-labels-place g c = omega (arith, c.requires.inside, view-length c.args.labels.now)

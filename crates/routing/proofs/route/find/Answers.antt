@@ -1,5 +1,4 @@
 use Rattle.std.proofs.Common.{sym, refl, subst, arith}
-use Rattle.timetable.specs.Answers.{asked}
 use Rattle.routing.specs.Labels.{view}
 use Rattle.routing.specs.Trips.{trip_of, Unmade}
 use Rattle.routing.specs.Turns.{Asked, Arrival}

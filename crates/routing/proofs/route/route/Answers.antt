@@ -1,8 +1,6 @@
 use Rattle.std.proofs.Common.{◌-◌, length, take, arith}
 use Rattle.std.proofs.lemmas.List.{length-take}
-use Rattle.timetable.specs.Answers.{asked}
 use Rattle.timetable.proofs.Laws.{class-short}
-use Rattle.routing.proofs.Chain.{apart}
 use Rattle.routing.proofs.Told.{stays, accepted}
 use Rattle.routing.proofs.Views.{view-length}
 use Rattle.routing.proofs.route.route.Goals as goal
@@ -25,10 +23,10 @@ find-requires g c =
       asked = record {
         fair = record { lawful = g.B.Book.lawful c.args.book.now; minute = omega (arith, ok.minute); extra = class-short c.args.query.class; from = ok.from };
         apart = c.if-query.false;
-        sized = omega (arith, long, c.places-places.ensures, ok.few_labels);
+        sized = omega (arith, long, c.places-places.ensures, ok.few-labels);
         room = omega (arith, long, c.places-places.ensures, ok.few-items);
       };
-      room = ok.few_legs;
+      room = ok.few-legs;
     }
 
 pub returns : goal.returns
