@@ -1,6 +1,6 @@
 -- The limits of what a book may hold. Assumes nothing.
 use Rattle.std.specs.Prelude.{◌≡◌, ℕ, ◌+◌, ◌*◌, ◌<◌, ◌≤◌, List, length, sum_by, slice_index, slice_index_or}
-use Rattle.std.specs.List.{AllByRecursion as All}
+use Rattle.std.specs.List.{AllByRecursion}
 use Rattle.timetable.specs.declared.sailing.Sailing.{Sailing}
 use Rattle.image.specs.declared.quay.Quay.{Quay}
 use Rattle.image.specs.declared.series.Series.{Series}
@@ -41,18 +41,18 @@ Rises {X} f xs = (i : ℕ) (d : X) → i + 1 < length xs → f (slice_index_or x
 pub record QuaysKept (quays : List Quay) : Type 0 where
   pub some-quay : 1 ≤ length quays
   pub few-quays : length quays ≤ 256
-  pub quay-kept : All QuayKept quays
+  pub quay-kept : AllByRecursion QuayKept quays
 
 pub record PrintedKept (quays : List Quay) (sailings : List Sailing) : Type 0 where
   pub quays-kept : QuaysKept quays
   pub few-sailings : length sailings ≤ 3072
-  pub sailing-kept : All (SailingKept (length quays)) sailings
+  pub sailing-kept : AllByRecursion (SailingKept (length quays)) sailings
   pub from-rises : Rises (λ s. s.from) sailings
 
 pub record ClockKept (quays : List Quay) (series : List Series) : Type 0 where
   pub quays-kept : QuaysKept quays
   pub few-series : length series ≤ 512
-  pub series-kept : All (SeriesKept (length quays)) series
+  pub series-kept : AllByRecursion (SeriesKept (length quays)) series
   pub from-rises : Rises (λ s. s.from) series
   -- the members of all series are as many places
   pub few-places : sum_by (λ s. s.count) series ≤ 3072
