@@ -1,4 +1,6 @@
 //! Books over the bytes of an image, which stay where they are.
+#![tactic(auto)]
+
 pub mod clock_face;
 pub mod clock_face_book;
 pub mod printed;

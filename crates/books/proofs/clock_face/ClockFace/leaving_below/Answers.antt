@@ -8,8 +8,8 @@ use Rattle.books.proofs.clock_face.ClockFace.leaving_below.Goals as goal
 inside : (c : goal.After-counted-sum) → c.loop-row.row < entries_in c.args.self.now.bytes.now
 inside c = omega (arith, c.number_at-row-end.ensures, c.loop-row-test.true)
 
-pub overflow-add-sum : goal.overflow-add-sum
-overflow-add-sum c = let h = sum_fits c.args.self.now.bytes.now c.loop-row.row (inside c) c.series.result c.series.ensures c.args.quay c.counted-sum.result c.loop-row.sum c.counted-sum.ensures c.loop-row.invariant.1 c.args.self.now.sound in omega (arith, h)
+pub overflow_add-sum : goal.overflow-add-sum
+overflow_add-sum c = let h = sum_fits c.args.self.now.bytes.now c.loop-row.row (inside c) c.series.result c.series.ensures c.args.quay c.counted-sum.result c.loop-row.sum c.counted-sum.ensures c.loop-row.invariant.1 c.args.self.now.sound in omega (arith, h)
 
 pub loop-row-preserved : goal.loop-row-preserved
 loop-row-preserved c = (
