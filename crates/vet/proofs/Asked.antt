@@ -1,5 +1,5 @@
 -- A query is refused for the first of its faults, and the answer to a vetting is the only right one. Assumes nothing.
-use Rattle.std.proofs.Common.{◌≡◌, ℕ, ◌<◌, ◌≤◌, Bool, true, false, cond, ltb, ◌⊎◌, List, length, Some, None, Ok, Err, Decides, Option, Result, sym, refl, ap, ◌∙◌, subst, inl, inr, arith, lit≤}
+use Rattle.std.proofs.Common.{◌≡◌, ℕ, ◌<◌, ◌≤◌, true, ltb, ◌⊎◌, List, length, Some, None, Ok, Err, Decides, Option, Result, sym, refl, ap, subst, inl, inr, arith, lit≤}
 use Rattle.std.proofs.lemmas.Bool.{cond_both, ltb-true, ltb-false}
 use Rattle.timetable.specs.declared.query.Query.{Query}
 use Rattle.timetable.specs.declared.query.Leg.{Leg}
@@ -9,7 +9,7 @@ use Rattle.timetable.specs.Refusals.{number_of}
 use Rattle.timetable.specs.Classes.{figures, class_minutes}
 use Rattle.timetable.specs.Timetables.{Timetable}
 use Rattle.timetable.specs.Times.{day}
-use Rattle.journey.specs.Journeys.{start, Journey}
+use Rattle.journey.specs.Journeys.{start}
 use Rattle.vet.specs.declared.verdict.Verdict.{Verdict}
 use Rattle.vet.specs.declared.verdict.Verdict.TheVariants.{Holds, Fails}
 use Rattle.vet.specs.Faults.{Lowest, QueryFault}

@@ -1,5 +1,5 @@
 -- The verdict on a plan is right, and no other is. Assumes nothing.
-use Rattle.std.proofs.Common.{◌≡◌, ℕ, ◌+◌, Bool, true, false, cond, eqb, ◌⊎◌, List, [], ◌∷◌, ◌++◌, length, Ok, Err, Result, sym, refl, ap, ◌∙◌, subst, inl, inr, arith}
+use Rattle.std.proofs.Common.{◌≡◌, ℕ, eqb, List, [], ◌∷◌, ◌++◌, length, Ok, Err, Result, sym, refl, ap, ◌∙◌, subst, inl, inr, arith}
 use Rattle.std.proofs.lemmas.Bool.{cond_both, cond-true, cond-false, eqb-true, eqb-false, eq-eqb, ne_eqb}
 use Rattle.timetable.specs.declared.sailing.Sailing.{Sailing}
 use Rattle.timetable.specs.declared.query.Query.{Query}
@@ -13,7 +13,7 @@ use Rattle.vet.specs.declared.verdict.Verdict.{Verdict}
 use Rattle.vet.specs.declared.verdict.Verdict.TheVariants.{Holds, Fails}
 use Rattle.vet.specs.Faults.{Lowest, LegFault}
 use Rattle.vet.specs.Vetting.{judged, later, onward, verdict_from, verdict_on}
-use Rattle.vet.specs.Verdicts.{Reaches, WrongAt, Strays, FitsFrom, Fits}
+use Rattle.vet.specs.Verdicts.{Reaches, FitsFrom}
 use Rattle.vet.proofs.Judged.{Means, judged-means, right-judged, wrong-judged}
 
 -- a leg more in front

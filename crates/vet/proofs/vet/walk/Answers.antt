@@ -1,4 +1,4 @@
-use Rattle.std.proofs.Common.{◌≡◌, sym, ◌∙◌, arith}
+use Rattle.std.proofs.Common.{◌∙◌, arith}
 use Rattle.vet.specs.Standings.{stand_of}
 use Rattle.vet.proofs.Walked.{begun, went, stopped, arrived, strayed}
 use Rattle.vet.proofs.vet.walk.Goals as goal
