@@ -1,12 +1,12 @@
 -- What a book of four quays answers. Assumes nothing.
-use Rattle.std.proofs.Common.{◌≡◌, ℕ, ◌<◌, ◌≤◌, List, map, length, get_or, take, None, Ok, Option, Result, sym, ap, ◌∙◌, arith}
+use Rattle.std.proofs.Common.{◌≡◌, ℕ, ◌<◌, List, length, get_or, take, None, Ok, Option, Result, sym, ap, ◌∙◌, arith}
 use Rattle.std.proofs.lemmas.List.{get_or-map, get_or-take, length-map}
 use Rattle.timetable.specs.declared.refusal.Refusal.{Refusal}
 use Rattle.timetable.specs.declared.refusal.Refusal.TheVariants.{NoPlace, NoQuay}
 use Rattle.timetable.specs.declared.sailing.Sailing.{Sailing}
 use Rattle.timetable.specs.declared.span.Span.{Span}
 use Rattle.timetable.specs.Answers.{asked, span_of}
-use Rattle.timetable.specs.Timetables.{nowhere, span_at}
+use Rattle.timetable.specs.Timetables.{nowhere}
 use Rattle.timetable.proofs.Told.{asked_in}
 use Rattle.routing_tests.specs.Books.{content_of, places_of, whole, meant}
 use Rattle.routing_tests.specs.Fair.{places-many, span-at}

@@ -1,12 +1,12 @@
 -- A book of four quays is lawful. Assumes nothing.
 use Rattle.std.specs.Prelude.{◌≡◌, ℕ, zero, suc, ◌<◌, ◌≤◌, min, Bool, true, false, cond, List, [], ◌∷◌, map, length, get_or, take, Some, None, Option, ◌==◌, nat_lt, slice_index_or, refl}
-use Rattle.std.proofs.Common.{sym, ◌∙◌, ap, subst, ⊎_elim, arith}
+use Rattle.std.proofs.Common.{sym, ◌∙◌, subst, ⊎_elim, arith}
 use Rattle.std.proofs.lemmas.Bool.{cases_lt, ltb-true, eqb-false}
 use Rattle.std.proofs.lemmas.List.{get_or_past, length-map, length-take}
 use Rattle.timetable.specs.declared.sailing.Sailing.{Sailing}
 use Rattle.timetable.specs.declared.span.Span.{Span}
 use Rattle.timetable.specs.Times.{day}
-use Rattle.timetable.specs.Timetables.{Timetable, change_at, place_at, span_at, Lawful, Within}
+use Rattle.timetable.specs.Timetables.{change_at, span_at, Lawful, Within}
 use Rattle.routing_tests.specs.Books.{content_of, places_of, whole, meant}
 
 some-sailing : (r s : Sailing) → ◌≡◌ {A = Option Sailing} (Some r) (Some s) → r ≡ s
