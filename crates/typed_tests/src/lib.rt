@@ -1,4 +1,6 @@
 //! Tests of typed lines and of the lines of answers: good and bad lines as tables, and each text with its bytes.
+#![tactic(auto)]
+
 #[cfg(test)]
 mod tests {
     use std::process::Abort;
