@@ -1,5 +1,5 @@
 -- What is fair is lawful. Assumes nothing.
-use Rattle.std.specs.Prelude.{◌≡◌, ℕ, zero, suc, ◌<◌, ◌≤◌, Bool, true, false, not, ◌&&◌, List, [], ◌∷◌, length, get_or, replicate, Some, None, Ok, Err, Option, ◌==◌, nat_le, nat_lt, slice_index, slice_index_or}
+use Rattle.std.specs.Prelude.{◌≡◌, ℕ, zero, suc, ◌<◌, ◌≤◌, true, not, List, [], ◌∷◌, length, get_or, replicate, Some, None, Ok, Err, Option, ◌==◌, nat_le, nat_lt, slice_index, slice_index_or}
 use Rattle.std.proofs.Common.{sym, ◌∙◌, ap, subst, ⊎_elim, arith}
 use Rattle.std.proofs.lemmas.Bool.{and_parts, ltb-true, leb-true, eqb-false, not-true, cases_lt, cond-true, cond-false, lt-ltb, le-ltb}
 use Rattle.std.proofs.lemmas.List.{get_or_past, get_or-replicate, length-replicate}
@@ -7,7 +7,7 @@ use Rattle.timetable.specs.declared.sailing.Sailing.{Sailing}
 use Rattle.timetable.specs.declared.span.Span.{Span}
 use Rattle.timetable.specs.declared.refusal.Refusal.TheVariants.{NoQuay}
 use Rattle.timetable.specs.Times.{day}
-use Rattle.timetable.specs.Timetables.{Timetable, Within, Lawful, span_at}
+use Rattle.timetable.specs.Timetables.{Within, Lawful, span_at}
 use Rattle.timetable.specs.Answers.{span_of}
 use Rattle.layers_tests.specs.Written.{written, short, right, all_right, fair}
 

@@ -1,4 +1,6 @@
 //! Tests of the layers and of thinning.
+#![tactic(auto)]
+
 ghost use Rattle.std.specs.Prelude.{◌≡◌, [], ◌∷◌};
 ghost use Rattle.tables.specs.Kept.{kept};
 

@@ -1,5 +1,5 @@
-use Rattle.std.proofs.Common.{◌≡◌, ◌+◌, true, false, ◌&&◌, ltb, length, get_or, drop, None, sym, ap, ◌∙◌, arith}
-use Rattle.std.proofs.lemmas.Bool.{le-ltb, lt-ltb, and_left}
+use Rattle.std.proofs.Common.{◌+◌, ◌&&◌, get_or, drop, None, sym, ap, ◌∙◌}
+use Rattle.std.proofs.lemmas.Bool.{and_left}
 use Rattle.std.proofs.lemmas.List.{at_drop_more, at_drop_all}
 use Rattle.layers_tests.specs.Written.{right, all_right}
 use Rattle.layers_tests.proofs.rows.all_in_limits.Goals as goal
