@@ -1,5 +1,5 @@
 -- What was bound is the image of just these quays and sailings. Assumes nothing.
-use Rattle.std.proofs.Common.{◌≡◌, ℕ, ◌+◌, ◌<◌, ◌≤◌, true, cond, leb, List, ◌++◌, map, length, get_or, take, drop, is_ok, Ok, Err, sym, refl, ap, ◌∙◌, subst, ⊎_elim, arith}
+use Rattle.std.proofs.Common.{◌≡◌, ℕ, true, cond, leb, List, map, length, take, drop, is_ok, Ok, Err, refl, ap, ◌∙◌, ⊎_elim, arith}
 use lib.Seq.{take-append_seam}
 use Rattle.std.proofs.lemmas.Bool.{cases_Bool, le-leb}
 use Rattle.timetable.specs.declared.sailing.Sailing.{Sailing}
@@ -13,7 +13,6 @@ use Rattle.image.proofs.Finds.{printed-first}
 use Rattle.image.proofs.Good.{printed-good, printed-right}
 use Rattle.image.proofs.Held.{changes-same, names_same, sailings-same}
 use Rattle.image.proofs.Laid.{printed-laid, printed-held}
-use Rattle.binder.specs.declared.unbound.Unbound.{Unbound}
 use Rattle.binder.specs.declared.unbound.Unbound.TheVariants.{Faulty, ShortImage}
 use Rattle.binder.specs.Binding.{book_bytes, answer, bound, over, Holds, Faults, Accepts}
 

@@ -1,22 +1,20 @@
 -- The check of a content is the check of its layout. Assumes nothing.
-use Rattle.std.proofs.Common.{◌≡◌, ℕ, zero, suc, ◌+◌, ◌-◌, ◌*◌, ◌<◌, ◌≤◌, cond, ◌&&◌, eqb, ltb, leb, List, [], ◌∷◌, ◌++◌, length, get_or, Ok, Err, sym, refl, ap, ◌∙◌, subst, ⊎_elim, mul-suc, add-one, arith}
+use Rattle.std.proofs.Common.{◌≡◌, ℕ, zero, suc, ◌+◌, ◌-◌, ◌<◌, ◌≤◌, cond, ◌&&◌, eqb, leb, List, length, get_or, Ok, Err, refl, ap, ◌∙◌, arith}
 use Rattle.std.specs.Result.{result_and}
-use Rattle.std.specs.List.{AllByRecursion as All}
-use Rattle.std.proofs.ByRecursion.{All-get_or}
 use Rattle.std.proofs.lemmas.Bool.{eq-eqb, ne_eqb, le-leb, lt-leb}
 use Rattle.image.specs.declared.fault.Fault.{Fault}
 use Rattle.image.specs.declared.fault.Part.TheVariants.{Heading, Quays, Entries}
 use Rattle.timetable.specs.declared.refusal.Refusal.TheVariants.{OutOfLimits}
 use Rattle.image.specs.declared.quay.Quay.{Quay}
 use Rattle.timetable.specs.declared.sailing.Sailing.{Sailing}
-use Rattle.image.specs.Checks.{Check, unless, fault, up_to, heading, zero_byte, quay, quay_head, name_byte, frame, ends, from_before, times, sailing, ending, printed_check}
-use Rattle.image.specs.Records.{number_at, quay-at, entry_at, quays_in, entries_in, sailing_at, quay_at}
-use Rattle.image.specs.Layout.{sailing_bytes, layout}
+use Rattle.image.specs.Checks.{Check, unless, fault, up_to, heading, zero_byte, quay, name_byte, ends, from_before, times, sailing, ending, printed_check}
+use Rattle.image.specs.Records.{number_at, quay-at, entry_at, quays_in, entries_in}
+use Rattle.image.specs.Layout.{sailing_bytes}
 use Rattle.image.proofs.Good.{Frame, frame_right}
 use Rattle.image.proofs.Walks.{up_to-all}
 use Rattle.image.proofs.Laid.{Laid, printed-laid, SailingRead, sailing-read, QuayRead, quay-read}
 use Rattle.binder.specs.declared.unbound.Unbound.TheVariants.{Faulty, ShortImage}
-use Rattle.binder.specs.Content.{sizes, letter, letter_is, quay_of, sailing_of, ends_of, no_quay, no_sailing, before, quay_row, sailing_row, content_check}
+use Rattle.binder.specs.Content.{sizes, letter, letter_is, sailing_of, no_quay, no_sailing, before, quay_row, sailing_row, content_check}
 use Rattle.binder.specs.Binding.{book_bytes, answer, bound}
 
 pub before_more : (xs : List Sailing) (row : ℕ) → (get_or xs row no_sailing).from ≡ before xs (row + 1)

@@ -1,9 +1,9 @@
 -- Writes into a buffer, one after another. Assumes nothing.
-use Rattle.std.proofs.Common.{◌≡◌, ℕ, zero, suc, ◌+◌, ◌-◌, ◌*◌, ◌<◌, ◌≤◌, List, [], ◌∷◌, ◌++◌, length, get_or, take, drop, sym, refl, ap, ◌∙◌, subst, append_assoc, zero-add, arith, length-append, take-append-drop, length-take}
+use Rattle.std.proofs.Common.{◌≡◌, ℕ, ◌+◌, ◌*◌, ◌<◌, ◌≤◌, List, [], ◌++◌, length, get_or, take, drop, sym, refl, ap, ◌∙◌, append_assoc, zero-add, arith, length-append, take-append-drop}
 use lib.Seq.{drop-append-add}
 use Rattle.std.specs.List.{flat_map, AllByRecursion as All}
-use Rattle.std.proofs.lemmas.List.{take_at, drop-drop, length-take-le, take_more, flat_map_more, take_all}
-use Rattle.std.proofs.ByRecursion.{All-take, All-get_or}
+use Rattle.std.proofs.lemmas.List.{take_at, drop-drop, length-take-le, take_more, flat_map_more}
+use Rattle.std.proofs.ByRecursion.{All-take}
 use Rattle.image.proofs.Cuts.{length-joined}
 use Rattle.image.specs.declared.quay.Quay.{Quay}
 use Rattle.timetable.specs.declared.sailing.Sailing.{Sailing}

@@ -1,4 +1,4 @@
-use Rattle.std.proofs.Common.{◌≡◌, cond, length, take, is_ok, sym, refl, ap, ◌∙◌, subst, arith}
+use Rattle.std.proofs.Common.{cond, length, is_ok, sym, ap, ◌∙◌, subst, arith}
 use Rattle.binder.specs.Binding.{book_bytes, over, Faults, Accepts}
 use Rattle.image.proofs.Contained.{small-take}
 use Rattle.binder.proofs.Bound.{held, first-bound, accepts}

@@ -1,4 +1,4 @@
-use Rattle.std.proofs.Common.{◌≡◌, length, sym, refl, ap, ◌∙◌, arith}
+use Rattle.std.proofs.Common.{length, sym, refl, ◌∙◌, arith}
 use Rattle.binder.proofs.Checked.{bound-fault, bound-short, bound-whole}
 use Rattle.binder.proofs.bind.bind_checked.Goals as goal
 

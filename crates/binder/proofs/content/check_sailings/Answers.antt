@@ -8,7 +8,7 @@ use Rattle.binder.proofs.content.check_sailings.Goals as goal
 
 pub returns-in_err-check_sailing : goal.returns-in_err-check_sailing
 returns-in_err-check_sailing c =
-    let p = err_from_is_err_and c.from-residual.result c.from-residual.ensures.1 in
+    let p = err_from_is_err_and c.from_residual.result c.from_residual.ensures.1 in
     let xs = c.args.sailings.now in
     let row = c.loop-row.row in
     let e = ap (λ k. sailing_of (get_or xs row no_sailing) k c.args.quays row (entry_at 16 c.args.quays row)) c.loop-row.invariant.1 in

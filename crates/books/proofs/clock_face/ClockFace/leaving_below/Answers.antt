@@ -1,4 +1,4 @@
-use Rattle.std.proofs.Common.{◌≡◌, ℕ, ◌<◌, ◌≤◌, map, sym, ap, ◌∙◌, arith}
+use Rattle.std.proofs.Common.{◌≡◌, ◌<◌, map, ap, ◌∙◌, arith}
 use Rattle.std.specs.List.{range_with_len, flat_map}
 use Rattle.image.specs.Records.{entries_in}
 use Rattle.image.specs.Meanings.{below, members}
@@ -8,7 +8,7 @@ use Rattle.books.proofs.clock_face.ClockFace.leaving_below.Goals as goal
 inside : (c : goal.After-counted-sum) → c.loop-row.row < entries_in c.args.self.now.bytes.now
 inside c = omega (arith, c.number_at-row-end.ensures, c.loop-row-test.true)
 
-pub overflow_add-sum : goal.overflow-add-sum
+pub overflow_add-sum : goal.overflow_add-sum
 overflow_add-sum c = let h = sum_fits c.args.self.now.bytes.now c.loop-row.row (inside c) c.series.result c.series.ensures c.args.quay c.counted-sum.result c.loop-row.sum c.counted-sum.ensures c.loop-row.invariant.1 c.args.self.now.sound in omega (arith, h)
 
 pub loop-row-preserved : goal.loop-row-preserved

@@ -1,4 +1,4 @@
-use Rattle.std.proofs.Common.{sym, ap, ◌∙◌}
+use Rattle.std.proofs.Common.{sym}
 use Rattle.image.specs.Meanings.{clock_sailings, changes_of}
 use Rattle.image.proofs.Tables.{place-told, place_untold}
 use Rattle.books.proofs.clock_face_book.ClockFaceBook.place.Goals as goal

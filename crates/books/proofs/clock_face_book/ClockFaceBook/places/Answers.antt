@@ -1,4 +1,4 @@
-use Rattle.std.proofs.Common.{sym, ap, ◌∙◌}
+use Rattle.std.proofs.Common.{ap, ◌∙◌}
 use Rattle.image.specs.Meanings.{below, clock_sailings}
 use Rattle.image.proofs.Clocks.{all-below}
 use Rattle.books.proofs.clock_face_book.ClockFaceBook.places.Goals as goal

@@ -1,4 +1,4 @@
-use Rattle.std.proofs.Common.{Ok, sym, ap, ◌∙◌, arith}
+use Rattle.std.proofs.Common.{sym, arith}
 use Rattle.image.specs.Meanings.{clock_sailings}
 use Rattle.image.proofs.Tables.{span-told, span_untold}
 use Rattle.books.proofs.clock_face_book.ClockFaceBook.span.Goals as goal

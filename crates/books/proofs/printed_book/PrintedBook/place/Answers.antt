@@ -1,4 +1,4 @@
-use Rattle.std.proofs.Common.{◌+◌, Some, Ok, sym, ap, ◌∙◌, arith}
+use Rattle.std.proofs.Common.{Some, Ok, sym, ap, ◌∙◌, arith}
 use Rattle.image.specs.Records.{entry_at, sailing_at}
 use Rattle.image.proofs.Prints.{row_told, row_untold}
 use Rattle.books.proofs.printed_book.PrintedBook.place.Goals as goal

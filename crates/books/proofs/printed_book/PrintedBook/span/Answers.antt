@@ -1,4 +1,4 @@
-use Rattle.std.proofs.Common.{Ok, sym, ap, ◌∙◌, arith}
+use Rattle.std.proofs.Common.{sym, arith}
 use Rattle.image.specs.Records.{sailings_of}
 use Rattle.image.proofs.Tables.{span-told, span_untold}
 use Rattle.books.proofs.printed_book.PrintedBook.span.Goals as goal
