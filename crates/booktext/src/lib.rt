@@ -1,4 +1,6 @@
 //! Timetables as plain text: what one line says.
+#![tactic(auto)]
+
 pub mod entry;
 mod fields;
 pub mod line;
