@@ -1,4 +1,6 @@
 //! Answers the commands on standard input over the book in book.img: notices, thinnings and routes.
+#![tactic(auto)]
+
 mod answers;
 mod calls;
 mod desk;

@@ -1,4 +1,6 @@
 //! Replays strings of calls, drawn by lot, on boards over drawn books, and compares every answer with a second computation.
+#![tactic(auto)]
+
 mod asking;
 mod draft;
 mod lots;
