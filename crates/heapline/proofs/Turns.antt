@@ -1,5 +1,5 @@
 -- What each call does to a heap line. Assumes nothing.
-use Rattle.std.proofs.Common.{◌≡◌, ℕ, ◌-◌, ◌<◌, ◌≤◌, min, Bool, true, false, cond, ltb, ◌⊎◌, List, [], ◌∷◌, length, get_or, take, set, Some, None, Ok, Err, Option, sym, refl, ap, ◌∙◌, subst, ⊎_elim, arith}
+use Rattle.std.proofs.Common.{◌≡◌, ℕ, ◌-◌, ◌<◌, ◌≤◌, min, Bool, true, false, cond, ltb, List, [], ◌∷◌, length, get_or, take, set, Some, None, Ok, Err, Option, sym, refl, ap, ◌∙◌, subst, ⊎_elim, arith}
 use lib.Seq.{take-set-lt}
 use Rattle.std.specs.List.Sorted.{IsPermutation}
 use Rattle.std.proofs.lemmas.List.Sorted.{length_permutation}
@@ -13,7 +13,7 @@ use Rattle.heap.specs.Calls.{held, Taken}
 use Rattle.heapline.specs.declared.entry.Waiting.{Waiting}
 use Rattle.heapline.specs.declared.line.HeapLine.{HeapLine}
 use Rattle.heapline.specs.Ranks.{rank_of_waiting}
-use Rattle.heapline.specs.Tallies.{code, waits, Tallies}
+use Rattle.heapline.specs.Tallies.{code, Tallies}
 use Rattle.heapline.specs.Lines.{keys_of, Places}
 use Rattle.heapline.proofs.Kept.{fewer-wait, same_item, rank_there, tallies-added, tallies-replaced, took, tallies-taken, is-first, none-wait}
 

@@ -9,7 +9,7 @@ use Rattle.heapline.proofs.heaped.HeapLineLine.take.Goals as goal
 pub returns-in_err-first : goal.returns-in_err-first
 returns-in_err-first c =
     let h = c.args.self.now in
-    subst (λ r. Takes (keys_of h) r (keys_of h)) (sym c.from-residual.ensures) (turns.nothing-taken h c.in_err-first.ensures.rows.0, refl)
+    subst (λ r. Takes (keys_of h) r (keys_of h)) (sym c.from_residual.ensures) (turns.nothing-taken h c.in_err-first.ensures.rows.0, refl)
 
 pub bounds-self-first : goal.bounds-self-first
 bounds-self-first c =
@@ -22,16 +22,7 @@ invariant_of-self-2 c =
     let w = c.in_ok-first.first in
     let left = c.take_least.new.self in
     let told = c.in_ok-first.ensures in
-    let (t, long) = turns.taken-tallies h w left.rows told.rows left.count told.count in (
-      h.few,
-      (
-        length-set h.keys w.item None ∙ h.long,
-        (
-          turns.inside-set h.size h.keys w.item None (turns.taken-inside h w left.rows told.rows) h.inside,
-          (t.single, (t.tied, (sym long ∙ t.counted, tt))),
-        ),
-      ),
-    )
+    let (t, long) = turns.taken-tallies h w left.rows told.rows left.count told.count in record { few = h.few; long = length-set h.keys w.item None ∙ h.long; inside = turns.inside-set h.size h.keys w.item None (turns.taken-inside h w left.rows told.rows) h.inside; single = t.single; tied = t.tied; counted = sym long ∙ t.counted }
 
 pub returns : goal.returns
 returns c =
