@@ -13,7 +13,7 @@ use Rattle.board.specs.declared.calls.Call.{Call}
 use Rattle.board.specs.declared.calls.Call.TheVariants.{Withhold, Release, Shut, Open, Thin, Route}
 use Rattle.board.specs.declared.calls.Answer.{Answer}
 use Rattle.board.specs.declared.calls.Answer.TheVariants.{Notice, Count, Told}
-use Rattle.board.specs.History.{History, calls_of}
+use Rattle.board.specs.History.{History}
 use Rattle.board.specs.Force.{withheld, is_shut, all_runs, out_of_force, book_in_force}
 use Rattle.board.specs.Answers.{Answers}
 use Rattle.board.specs.Plain.{clear, fed_all}

@@ -11,7 +11,7 @@ use Rattle.journey.proofs.Follows.{journey_laws}
 use Rattle.thinning.specs.Thinning.{Picks, marked}
 use Rattle.thinning.proofs.Replaced.{keeps}
 use Rattle.routing.specs.declared.found.Found.{Found}
-use Rattle.routing.specs.Route.{Lent, cause_of, cause_in, Best, Tells, Routed}
+use Rattle.routing.specs.Route.{Lent, cause_of, cause_in, Tells, Routed}
 use Rattle.board.specs.History.{History}
 use Rattle.board.specs.Force.{book_in_force}
 use Rattle.board.specs.States.{State, shown}

@@ -10,7 +10,7 @@ use Rattle.board.specs.declared.calls.Call.TheVariants.{Withhold, Release, Shut,
 use Rattle.board.specs.declared.calls.Answer.{Answer}
 use Rattle.board.specs.History.{event, History, new, ◌then◌, calls_of}
 use Rattle.board.specs.Force.{accepted, withheld, is_shut, all_runs, out_of_force}
-use Rattle.board.specs.Answers.{Answers, AllRight}
+use Rattle.board.specs.Answers.{Answers}
 use Rattle.board.specs.Plain.{Plain, clear, fed, fed_all, Agrees, PlainAgrees}
 
 fed-more : (t : Timetable) (b : Plain) (cs : List Call) (c : Call) → fed_all t b (cs ++ (c ∷ [])) ≡ fed t (fed_all t b cs) c

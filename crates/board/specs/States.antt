@@ -1,6 +1,5 @@
 -- All that a board holds, and what becomes of it. Assumes nothing.
-use Rattle.std.specs.Prelude.{◌≡◌, ℕ, Bool, false, cond, ◌||◌, List, [], ◌∷◌, ◌++◌, length, replicate, is_ok, Result, nat_lt, slice_index_or}
-use Rattle.timetable.specs.declared.refusal.Refusal.{Refusal}
+use Rattle.std.specs.Prelude.{◌≡◌, ℕ, Bool, false, cond, ◌||◌, List, [], ◌∷◌, ◌++◌, length, replicate, is_ok, nat_lt, slice_index_or}
 use Rattle.timetable.specs.Timetables.{Timetable}
 use Rattle.timetable.specs.Hiding.{hide}
 use Rattle.tables.specs.Lists.{has, without}

@@ -29,8 +29,8 @@ pub struct Board<B> {
 impl<B: Book> Board<B> {
     // A board over the opened book, before any call.
     pub fn new(opened: B) -> Self
-        ensures state { state_of meaning result ≡ opening (meaning opened) }
-        ensures law { Kept (meaning opened) begun (state_of meaning result) }
+        ensures state { state_of B.meaning result ≡ opening (B.meaning opened) }
+        ensures law { Kept (B.meaning opened) begun (state_of B.meaning result) }
     {
         let thinned = Thinned::new(Shutting::new(Withholding::new(opened)));
         Board { thinned }
@@ -38,9 +38,9 @@ impl<B: Book> Board<B> {
 
     // Takes the sailings of a run out of force.
     pub fn withhold(&mut self, run: u16) -> Result<(), Refusal>
-        ensures answer { result ≡ on_withhold (state_of meaning self.old) run }
-        ensures after { state_of meaning self.new ≡ after_withhold (state_of meaning self.old) run }
-        ensures law { CarriesOn (state_of meaning self.old) (Withhold run) (Notice result) (state_of meaning self.new) }
+        ensures answer { result ≡ on_withhold (state_of B.meaning self.old) run }
+        ensures after { state_of B.meaning self.new ≡ after_withhold (state_of B.meaning self.old) run }
+        ensures law { CarriesOn (state_of B.meaning self.old) (Withhold run) (Notice result) (state_of B.meaning self.new) }
     {
         let withheld = self.thinned.below.below.withhold(run);
         self.thinned.marks.after_notice(withheld.is_ok());
@@ -49,9 +49,9 @@ impl<B: Book> Board<B> {
 
     // Puts them into force again.
     pub fn release(&mut self, run: u16) -> Result<(), Refusal>
-        ensures answer { result ≡ on_release (state_of meaning self.old) run }
-        ensures after { state_of meaning self.new ≡ after_release (state_of meaning self.old) run }
-        ensures law { CarriesOn (state_of meaning self.old) (Release run) (Notice result) (state_of meaning self.new) }
+        ensures answer { result ≡ on_release (state_of B.meaning self.old) run }
+        ensures after { state_of B.meaning self.new ≡ after_release (state_of B.meaning self.old) run }
+        ensures law { CarriesOn (state_of B.meaning self.old) (Release run) (Notice result) (state_of B.meaning self.new) }
     {
         let released = self.thinned.below.below.release(run);
         self.thinned.marks.after_notice(released.is_ok());
@@ -60,9 +60,9 @@ impl<B: Book> Board<B> {
 
     // Takes the sailings that touch a quay out of force.
     pub fn shut(&mut self, quay: u16) -> Result<(), Refusal>
-        ensures answer { result ≡ on_shut (state_of meaning self.old) quay }
-        ensures after { state_of meaning self.new ≡ after_shut (state_of meaning self.old) quay }
-        ensures law { CarriesOn (state_of meaning self.old) (Shut quay) (Notice result) (state_of meaning self.new) }
+        ensures answer { result ≡ on_shut (state_of B.meaning self.old) quay }
+        ensures after { state_of B.meaning self.new ≡ after_shut (state_of B.meaning self.old) quay }
+        ensures law { CarriesOn (state_of B.meaning self.old) (Shut quay) (Notice result) (state_of B.meaning self.new) }
     {
         let closed = self.thinned.below.shut(quay);
         self.thinned.marks.after_notice(closed.is_ok());
@@ -71,9 +71,9 @@ impl<B: Book> Board<B> {
 
     // Puts them into force again.
     pub fn open(&mut self, quay: u16) -> Result<(), Refusal>
-        ensures answer { result ≡ on_open (state_of meaning self.old) quay }
-        ensures after { state_of meaning self.new ≡ after_open (state_of meaning self.old) quay }
-        ensures law { CarriesOn (state_of meaning self.old) (Open quay) (Notice result) (state_of meaning self.new) }
+        ensures answer { result ≡ on_open (state_of B.meaning self.old) quay }
+        ensures after { state_of B.meaning self.new ≡ after_open (state_of B.meaning self.old) quay }
+        ensures law { CarriesOn (state_of B.meaning self.old) (Open quay) (Notice result) (state_of B.meaning self.new) }
     {
         let reopened = self.thinned.below.open(quay);
         self.thinned.marks.after_notice(reopened.is_ok());
@@ -82,9 +82,9 @@ impl<B: Book> Board<B> {
 
     // Marks the dominated sailings of the book in force, and tells how many they are.
     pub fn thin(&mut self) -> u16
-        ensures count { result ≡ dominated_in (standing (state_of meaning self.old)) }
-        ensures after { AfterThin (state_of meaning self.old) (state_of meaning self.new) }
-        ensures law { CarriesOn (state_of meaning self.old) Thin (Count result) (state_of meaning self.new) }
+        ensures count { result ≡ dominated_in (standing (state_of B.meaning self.old)) }
+        ensures after { AfterThin (state_of B.meaning self.old) (state_of B.meaning self.new) }
+        ensures law { CarriesOn (state_of B.meaning self.old) Thin (Count result) (state_of B.meaning self.new) }
     {
         self.thinned.thin()
     }
@@ -97,8 +97,8 @@ impl<B: Book> Board<B> {
         legs: &mut [Leg],
         query: Query,
     ) -> Result<Option<Found>, Refusal>
-        ensures shown { Routed (shown (state_of meaning self.now)) query (lent (keys line.old) labels.old legs.old) (lent (keys line.new) labels.new legs.new) result }
-        ensures law { Carries (state_of meaning self.now) (event (Route query) (Told result) (lent (keys line.old) labels.old legs.old) (lent (keys line.new) labels.new legs.new)) (state_of meaning self.now) }
+        ensures shown { Routed (shown (state_of B.meaning self.now)) query (lent (L.keys line.old) labels.old legs.old) (lent (L.keys line.new) labels.new legs.new) result }
+        ensures law { Carries (state_of B.meaning self.now) (event (Route query) (Told result) (lent (L.keys line.old) labels.old legs.old) (lent (L.keys line.new) labels.new legs.new)) (state_of B.meaning self.now) }
     {
         routing::route::route(&self.thinned, line, labels, legs, query)
     }
@@ -106,7 +106,7 @@ impl<B: Book> Board<B> {
     // The book in force, for other questions than routes: marked sailings stand in it.
     pub fn in_force(&self) -> &Shutting<Withholding<B>>
         ensures book { result.now ≡ self.now.thinned.below }
-        ensures law { ShowsForce meaning (state_of meaning self.now) result.now }
+        ensures law { ShowsForce B.meaning (state_of B.meaning self.now) result.now }
     {
         &self.thinned.below
     }

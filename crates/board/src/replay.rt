@@ -23,8 +23,8 @@ pub fn apply<B: Book, L: Line>(
     legs: &mut [Leg],
     call: Call,
 ) -> Answer
-    ensures does { Does (state_of meaning board.old) call result (lent (keys line.old) labels.old legs.old) (lent (keys line.new) labels.new legs.new) (state_of meaning board.new) }
-    ensures law { Carries (state_of meaning board.old) (event call result (lent (keys line.old) labels.old legs.old) (lent (keys line.new) labels.new legs.new)) (state_of meaning board.new) }
+    ensures does { Does (state_of B.meaning board.old) call result (lent (L.keys line.old) labels.old legs.old) (lent (L.keys line.new) labels.new legs.new) (state_of B.meaning board.new) }
+    ensures law { Carries (state_of B.meaning board.old) (event call result (lent (L.keys line.old) labels.old legs.old) (lent (L.keys line.new) labels.new legs.new)) (state_of B.meaning board.new) }
 {
     match call {
         Call::Withhold(run) => Answer::Notice(board.withhold(run)),
@@ -54,7 +54,7 @@ pub fn replay_into<B: Book + Drop, L: Line>(
     answers: &mut [Answer],
 ) -> usize
     ensures count { result ≡ min (length calls.now) (length answers.old) }
-    ensures law { Replayed (meaning opened) (take result calls.now) (take result answers.new) (lent (keys line.old) labels.old legs.old) (lent (keys line.new) labels.new legs.new) }
+    ensures law { Replayed (B.meaning opened) (take result calls.now) (take result answers.new) (lent (L.keys line.old) labels.old legs.old) (lent (L.keys line.new) labels.new legs.new) }
     ensures rest { drop result answers.new ≡ drop result answers.old }
 {
     let mut board = Board::new(opened);
@@ -74,7 +74,7 @@ pub fn replay<B: Book + Drop, L: Line>(
     legs: &mut [Leg],
     calls: &[Call],
 ) -> Result<Vec<Answer>, AllocError>
-    ensures { IfOk result (λ v. Replayed (meaning opened) calls.now v.items (lent (keys line.old) labels.old legs.old) (lent (keys line.new) labels.new legs.new)) }
+    ensures { IfOk result (λ v. Replayed (B.meaning opened) calls.now v.items (lent (L.keys line.old) labels.old legs.old) (lent (L.keys line.new) labels.new legs.new)) }
 {
     let mut board = Board::new(opened);
     let mut answers = Vec::new(heap);

@@ -1,4 +1,4 @@
-use Rattle.std.proofs.Common.{◌≡◌, List, take, vec_items, sym, subst, subst₂}
+use Rattle.std.proofs.Common.{List, take, vec_items, sym, subst, subst₂}
 use Rattle.std.proofs.lemmas.List.{take_more, take_all}
 use Rattle.timetable.specs.Timetables.{Timetable}
 use Rattle.routing.specs.Route.{Lent, lent}

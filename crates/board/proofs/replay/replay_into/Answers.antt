@@ -1,4 +1,4 @@
-use Rattle.std.proofs.Common.{◌≡◌, ◌+◌, List, take, drop, sym, ap, ◌∙◌, subst₂, arith, length-set, drop-drop, drop-set-lt}
+use Rattle.std.proofs.Common.{◌+◌, List, take, drop, sym, ap, ◌∙◌, subst₂, arith, length-set, drop-drop, drop-set-lt}
 use Rattle.std.proofs.lemmas.List.{take_more, take_more_set}
 use Rattle.routing.specs.Route.{Lent, lent}
 use Rattle.board.specs.declared.calls.Call.{Call}
