@@ -1,4 +1,6 @@
 //! Tests of the reader of timetables: good lines, each fault, and the limits of numbers, times and names.
+#![tactic(auto)]
+
 #[cfg(test)]
 mod tests {
     use booktext::entry::*;
