@@ -1,8 +1,9 @@
 /*
  * The call of the gate console: the next departure from a quay, out of the image of a book.
  *
- * Link with libconsole.a, which `rt staticlib console` writes to target/staticlib/. It needs no
- * other library, allocates nothing, keeps nothing between calls and may be called from any thread.
+ * Link with libconsole.a, which console/check.sh writes to target/staticlib/: `rt lib` in
+ * crates/console_c proves it and makes it, as out/libconsole_c.a. It needs no other library,
+ * allocates nothing, keeps nothing between calls and may be called from any thread.
  */
 #ifndef CANAL_H
 #define CANAL_H

@@ -109,7 +109,8 @@ stands_alone() {
 rm -rf "$build"
 mkdir -p "$build/images" || exit 2
 rm -f "$library"
-run "static library" sh -c "cd '$root' && rt staticlib console && test -s '$library'"
+mkdir -p "$(dirname "$library")" || exit 2
+run "static library" sh -c "cd '$root/crates/console_c' && rt lib && cp out/libconsole_c.a '$library' && test -s '$library'"
 [ "$failed" -eq 0 ] || ended
 run "library stands alone" stands_alone
 run "example builds" gcc $warnings -O2 -o "$build/gate_console" "$here/gate_console.c" "$library"

@@ -1,5 +1,5 @@
 -- The call is answered as it should be, and in no other way. Assumes nothing.
-use Rattle.std.proofs.Common.{◌≡◌, ℕ, ◌+◌, ◌<◌, ◌≤◌, List, ◌++◌, length, drop, Some, None, Ok, Err, Option, Result, sym, refl, ap, ◌∙◌, subst, ⊎_elim, arith}
+use Rattle.std.proofs.Common.{◌≡◌, ℕ, ◌<◌, ◌≤◌, List, length, Some, None, Ok, Err, Option, Result, sym, refl, ap, ◌∙◌, subst, ⊎_elim}
 use Rattle.std.proofs.lemmas.Bool.{cases_lt}
 use Rattle.timetable.specs.declared.refusal.Refusal.{Refusal}
 use Rattle.timetable.specs.Times.{day}
@@ -7,16 +7,15 @@ use Rattle.timetable.specs.Timetables.{Timetable, Lawful}
 use Rattle.image.specs.declared.fault.Fault.{Fault}
 use Rattle.image.specs.declared.fault.Kind.{Kind}
 use Rattle.image.specs.declared.fault.Kind.TheVariants.{Printed, ClockFace}
-use Rattle.image.specs.Checks.{image_check}
 use Rattle.image.specs.Faults.{Wrong, Told}
-use Rattle.image.specs.Images.{PrintedOf, ClockOf, Tells}
+use Rattle.image.specs.Images.{Tells}
 use Rattle.image.specs.Meanings.{printed, clock_face}
 use Rattle.image.proofs.Clocks.{clock_lawful}
 use Rattle.image.proofs.Contained.{Small}
 use Rattle.image.proofs.Exact.{printed-exact, clock_exact}
 use Rattle.image.proofs.Prints.{printed-lawful}
 use Rattle.image.proofs.Same.{printed-same, clock_same}
-use Rattle.console.specs.Answers.{four_bytes, Answers, OneAnswer}
+use Rattle.console.specs.Answers.{Answers, OneAnswer}
 use Rattle.console.specs.Contents.{Holds}
 use Rattle.console.specs.Told.{soonest, told_in, told_of, code_of, left_by}
 use Rattle.console.proofs.Soonest.{none_told, some-told, told_none, told-some, earliest_soon}
@@ -49,7 +48,7 @@ module _ (bs : List ℕ) (q u : ℕ) (given left : List ℕ) (code : ℕ) where
       (cases_lt q (length t.changes))
 
   pub answered : Small bs → (r : Result Kind Fault) → Tells bs r → ((e : Fault) → Told r (Wrong bs) e) → By (told_of r bs q u (length given)) → Answers bs q u given left code
-  answered small (Err f) tells told b = Answers.no-image f ((told f).0 refl) b.1 b.0
+  answered small (Err f) tells told b = Answers.no_image f ((told f).0 refl) b.1 b.0
   answered small (Ok Printed) tells told b =
       let c = tells.printed refl in
       in_timetable (printed bs) (printed-lawful bs ((printed-exact bs small).1 c)) (Holds.printed c (printed-same c.quays c.sailings bs c.laid)) b
@@ -71,7 +70,7 @@ module _ (bs : List ℕ) (r : Result Kind Fault) (tells : Tells bs r) (told : (e
   settled left code o e l c = (l ∙ ap (λ x. left_by x given) (sym e), c ∙ ap code_of (sym e))
 
   pub only : (left : List ℕ) (code : ℕ) → Answers bs q u given left code → By bs q u given left code (told_of r bs q u (length given))
-  only left code (Answers.no-image e w c l) = settled left code (Err e.refusal) (ap (λ x. told_of x bs q u (length given)) ((told e).1 w)) l c
+  only left code (Answers.no_image e w c l) = settled left code (Err e.refusal) (ap (λ x. told_of x bs q u (length given)) ((told e).1 w)) l c
   only left code (Answers.no-quay t h i c l) = settled left code _ (holds-told t h ∙ tells-no-quay t q u (length given) i) l c
   only left code (Answers.late t h i d c l) = settled left code _ (holds-told t h ∙ tells-late t q u (length given) i d) l c
   only left code (Answers.short t h i d n c l) = settled left code _ (holds-told t h ∙ tells-short t q u (length given) i d n) l c

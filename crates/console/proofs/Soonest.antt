@@ -1,10 +1,10 @@
 -- The soonest over all places is the earliest departure. Assumes nothing.
-use Rattle.std.proofs.Common.{◌≡◌, ℕ, zero, suc, ◌+◌, ◌<◌, ◌≤◌, min, List, length, get_or, Some, None, Option, sym, refl, ap, ◌∙◌, subst, ⊎_elim, arith}
+use Rattle.std.proofs.Common.{◌≡◌, ℕ, zero, suc, ◌+◌, ◌<◌, ◌≤◌, List, length, get_or, Some, None, Option, sym, refl, ap, ◌∙◌, subst, ⊎_elim, arith}
 use Rattle.std.proofs.lemmas.List.{get_or_past}
-use Rattle.std.proofs.lemmas.Bool.{cases_eq, cases_lt, eq-eqb, ne_eqb}
+use Rattle.std.proofs.lemmas.Bool.{cases_eq, cases_lt, eq-eqb}
 use Rattle.timetable.specs.declared.sailing.Sailing.{Sailing}
 use Rattle.timetable.specs.Times.{day, next}
-use Rattle.timetable.specs.Timetables.{Timetable, Lawful, place_at}
+use Rattle.timetable.specs.Timetables.{Timetable, Lawful}
 use Rattle.timetable.proofs.Laws.{next_soon}
 use Rattle.console.specs.Earliest.{From, NoneFrom, Earliest}
 use Rattle.console.specs.Told.{departure, sooner, soonest}

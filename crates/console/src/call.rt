@@ -51,13 +51,7 @@ fn tell(image: &[u8], quay: u16, minute: u16, answer: &mut [u8]) -> u8
 }
 
 // The earliest departure, at or after a minute of the day, of any sailing from a quay.
-#[unsafe(no_mangle)]
-pub extern "C" fn canal_next_departure(
-    image: &[u8],
-    quay: u16,
-    minute: u16,
-    answer: &mut [u8],
-) -> u8
+pub fn canal_next_departure(image: &[u8], quay: u16, minute: u16, answer: &mut [u8]) -> u8
     ensures answers { Answers image.now quay minute answer.old answer.new result }
     ensures alone { OneAnswer image.now quay minute answer.old }
 {

@@ -40,8 +40,8 @@ fn earlier(best: Option<u64>, other: Option<u64>) -> Option<u64>
 
 // Every sailing from a quay stands within its span, so no other place is asked for.
 fn earliest_within<B: Book>(book: &B, span: Span, quay: u16, minute: u32) -> Option<u64>
-    requires { Ok span ≡ span_of (meaning book.now) quay }
-    ensures { result ≡ soonest (meaning book.now).places quay minute (length (meaning book.now).places) }
+    requires { Ok span ≡ span_of (B.meaning book.now) quay }
+    ensures { result ≡ soonest (B.meaning book.now).places quay minute (length (B.meaning book.now).places) }
 {
     let mut best = None;
     for place in span.start..span.end {
@@ -70,7 +70,7 @@ pub(crate) fn earliest_in<B: Book>(
     minute: u16,
     room: usize,
 ) -> Result<Option<u32>, Refusal>
-    ensures { result ≡ told_in (meaning book.now) quay minute room }
+    ensures { result ≡ told_in (B.meaning book.now) quay minute room }
 {
     let span = book.span(quay)?;
     check_call(minute, room)?;
