@@ -1,4 +1,5 @@
 //! Cases of the call of the gate console.
+#![tactic(auto)]
 
 #[cfg(test)]
 mod tests {
