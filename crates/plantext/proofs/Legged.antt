@@ -1,5 +1,5 @@
 -- A leg is read exactly where it stands, and refused for the first thing that is wrong. Assumes nothing.
-use Rattle.std.proofs.Common.{◌≡◌, ℕ, ◌<◌, ◌≤◌, cond, eqb, ◌⊎◌, List, length, Some, None, Ok, Err, Option, Result, sym, refl, ap, ◌∙◌, subst, inl, inr, arith}
+use Rattle.std.proofs.Common.{◌≡◌, ℕ, ◌<◌, ◌≤◌, eqb, List, length, Some, None, Ok, Err, Option, Result, sym, refl, ap, ◌∙◌, subst, inl, inr, arith}
 use Rattle.std.specs.Option.{ok_or}
 use Rattle.std.proofs.lemmas.Bool.{cond_both, eqb-true, eqb-false, eq-eqb, ne_eqb, cond-true, cond-false}
 use Rattle.timetable.specs.declared.refusal.Refusal.{Refusal}
@@ -11,7 +11,7 @@ use Rattle.numerals.specs.Numbers.{Numeral, number_at}
 use Rattle.numerals.specs.Wides.{WideNumeral, wide_at}
 use Rattle.numerals.proofs.Standing.{number_tells, number_told}
 use Rattle.numerals.proofs.Widely.{wide-tells, wide-told}
-use Rattle.typed.specs.Fields.{number_here, and_then, whole}
+use Rattle.typed.specs.Fields.{and_then, whole}
 use Rattle.plantext.specs.Lines.{wide_here, leg_with, leg_of, leg_line}
 use Rattle.plantext.specs.Standing.{Begins, LegStands, LegMisses, LegExceeds}
 use Rattle.plantext.specs.Saying.{Answers, Says, LegSays}

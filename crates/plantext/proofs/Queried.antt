@@ -1,5 +1,5 @@
 -- The query of a plan is read as that of a route. Assumes nothing.
-use Rattle.std.proofs.Common.{◌≡◌, ℕ, Bool, true, false, cond, eqb, ltb, ◌⊎◌, List, length, get_or, Some, None, Ok, Err, Option, Result, sym, refl, ap, ◌∙◌, subst, inl, inr, arith}
+use Rattle.std.proofs.Common.{◌≡◌, ℕ, Bool, true, false, cond, eqb, ltb, ◌⊎◌, List, length, Some, None, Ok, Err, Option, Result, sym, refl, ap, ◌∙◌, subst, inl, inr, arith}
 use Rattle.std.specs.Option.{ok_or}
 use Rattle.std.specs.Result.{result_map_both}
 use Rattle.std.proofs.lemmas.Bool.{le-ltb, ne_eqb, cond-false}
@@ -10,7 +10,7 @@ use Rattle.numerals.specs.Numbers.{number_at}
 use Rattle.typed.specs.declared.command.Command.{Command}
 use Rattle.typed.specs.declared.command.Command.TheVariants.{Route}
 use Rattle.typed.specs.Commands.{by_letter, command_of}
-use Rattle.typed.specs.Fields.{and_then, whole, query_with, query_of}
+use Rattle.typed.specs.Fields.{and_then, query_with, query_of}
 use Rattle.typed.proofs.Sayings.{says}
 use Rattle.plantext.specs.Lines.{lettered, query_in, query_line}
 use Rattle.plantext.specs.Standing.{Begins, QueryStands, QueryMisses, QueryExceeds}

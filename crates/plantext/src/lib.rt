@@ -1,2 +1,4 @@
 //! The lines of a plan: first its query, then each leg.
+#![tactic(auto)]
+
 pub mod read;

@@ -13,6 +13,6 @@ returns c =
 
 pub returns-in_err-read_command : goal.returns-in_err-read_command
 returns-in_err-read_command c =
-    let p = err_from_is_err_and c.from-residual-in_err-read_command.result c.from-residual-in_err-read_command.ensures.1 in
+    let p = err_from_is_err_and c.from_residual-in_err-read_command.result c.from_residual-in_err-read_command.ensures.1 in
     rw (p.1, p.2)
     (ap (λ r. and_then r query_in) c.in_err-read_command.ensures.value ∙ line_is c.args.line.now c.in_ok-begins.field-0 c.in_ok-begins.ensures)
