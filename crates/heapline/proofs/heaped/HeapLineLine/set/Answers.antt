@@ -19,7 +19,14 @@ pub invariant_of-self-2 : goal.invariant_of-self-2
 invariant_of-self-2 c =
     let h = c.args.self.now in
     let w = c.place.new.waiting in
-    let (t, long) = turns.placed h c.args.item c.args.key (omega (arith, c.if-item-self.false)) w.rows w.count _ c.in_ok-place.ensures in record { few = h.few; long = length-set h.keys c.args.item (Some c.args.key) ∙ h.long; inside = turns.inside-set h.size h.keys c.args.item (Some c.args.key) (omega (arith, c.if-item-self.false)) h.inside; single = t.single; tied = t.tied; counted = sym long ∙ t.counted }
+    let (t, long) = turns.placed h c.args.item c.args.key (omega (arith, c.if-item-self.false)) w.rows w.count _ c.in_ok-place.ensures in record {
+      few = h.few;
+      long = length-set h.keys c.args.item (Some c.args.key) ∙ h.long;
+      inside = turns.inside-set h.size h.keys c.args.item (Some c.args.key) (omega (arith, c.if-item-self.false)) h.inside;
+      single = t.single;
+      tied = t.tied;
+      counted = sym long ∙ t.counted;
+    }
 
 pub returns : goal.returns
 returns c =

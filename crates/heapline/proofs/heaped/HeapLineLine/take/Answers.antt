@@ -22,7 +22,14 @@ invariant_of-self-2 c =
     let w = c.in_ok-first.first in
     let left = c.take_least.new.self in
     let told = c.in_ok-first.ensures in
-    let (t, long) = turns.taken-tallies h w left.rows told.rows left.count told.count in record { few = h.few; long = length-set h.keys w.item None ∙ h.long; inside = turns.inside-set h.size h.keys w.item None (turns.taken-inside h w left.rows told.rows) h.inside; single = t.single; tied = t.tied; counted = sym long ∙ t.counted }
+    let (t, long) = turns.taken-tallies h w left.rows told.rows left.count told.count in record {
+      few = h.few;
+      long = length-set h.keys w.item None ∙ h.long;
+      inside = turns.inside-set h.size h.keys w.item None (turns.taken-inside h w left.rows told.rows) h.inside;
+      single = t.single;
+      tied = t.tied;
+      counted = sym long ∙ t.counted;
+    }
 
 pub returns : goal.returns
 returns c =

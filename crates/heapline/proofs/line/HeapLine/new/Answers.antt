@@ -8,7 +8,14 @@ use Rattle.heapline.proofs.line.HeapLine.new.Goals as goal
 pub invariant_of-result : goal.invariant_of-result
 invariant_of-result c =
     let ws = take c.new.result.count c.new.result.rows in
-    let none : c.new.result.count ≡ 0 = c.new.ensures.count in record { few = omega (arith, c.min.ensures); long = refl; inside = (λ i le. turns.none-idle most_items i); single = (λ i. subst (λ n. times_of (take n c.new.result.rows) i ≤ 1) (sym none) (omega arith)); tied = (λ i. subst (λ n. key_of (take n c.new.result.rows) i ≡ 0) (sym none) refl ∙ turns.idle_code most_items i); counted = none }
+    let none : c.new.result.count ≡ 0 = c.new.ensures.count in record {
+      few = omega (arith, c.min.ensures);
+      long = refl;
+      inside = (λ i le. turns.none-idle most_items i);
+      single = (λ i. subst (λ n. times_of (take n c.new.result.rows) i ≤ 1) (sym none) (omega arith));
+      tied = (λ i. subst (λ n. key_of (take n c.new.result.rows) i ≡ 0) (sym none) refl ∙ turns.idle_code most_items i);
+      counted = none;
+    }
 
 pub returns : goal.returns
 returns c = idle-rows c.min.result _ (omega (arith, c.min.ensures)) (sym (c.min.ensures ∙ turns.size_is c.args.size))
