@@ -3,6 +3,7 @@ use crate::judging::*;
 use crate::making::*;
 use crate::worked::*;
 use std::process::Abort;
+use std::test::Fail;
 
 // How many images were passed and refused.
 #[derive(Clone, Copy, PartialEq, Debug)]
@@ -30,7 +31,7 @@ fn change_byte(
     let kept = bytes.get(at).copied().ok_or("no such byte")?;
     for step in 1..=255u8 {
         set_byte(bytes, at, kept.wrapping_add(step));
-        check_agreement(rt, bytes.as_slice()).note(format_args!("byte {at} and {step}"))?;
+        check_agreement(rt, bytes.as_slice(), &format_args!("byte {at} and {step}"));
         tally.add(bytes.as_slice());
     }
     set_byte(bytes, at, kept);
@@ -56,13 +57,13 @@ fn change_the_length(rt: &impl Abort, bytes: &mut Vec<u8>) -> Result<Tally, Fail
     };
     for value in 0..=255u8 {
         bytes.push(value)?;
-        check_agreement(rt, bytes.as_slice()).note(value)?;
+        check_agreement(rt, bytes.as_slice(), &value);
         tally.add(bytes.as_slice());
         let _ = bytes.pop();
     }
     for _ in 0..bytes.len() {
         let _ = bytes.pop();
-        check_agreement(rt, bytes.as_slice()).note(bytes.len())?;
+        check_agreement(rt, bytes.as_slice(), &bytes.len());
         tally.add(bytes.as_slice());
     }
     Ok(tally)

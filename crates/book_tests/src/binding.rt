@@ -8,6 +8,7 @@ use binder::bind::bind;
 use image::quay::Quay;
 use std::alloc::{AllocError, Global};
 use std::process::Abort;
+use std::test::Fail;
 use timetable::sailing::Sailing;
 
 const SHORT: Result<usize, Told> = Err(Told {

@@ -8,6 +8,7 @@ use image::quay::Quay;
 use image::series::Series;
 use std::alloc::{AllocError, Global};
 use std::process::Abort;
+use std::test::Fail;
 use timetable::sailing::Sailing;
 
 // A linear congruential generator.
@@ -90,7 +91,7 @@ impl Lots {
             starts.push(self.stray(quays))?;
         }
         if self.below(8) != 0 {
-            starts.sort();
+            starts.sort()?;
         }
         Ok(starts)
     }
@@ -180,7 +181,7 @@ fn drawn_contents_are_bound_as_they_are_judged(rt: HostRuntime) -> Result<(), Fa
         }
         let mut image = printed_image(rt.alloc(), quays.as_slice(), sailings.as_slice())?;
         lots.damage(&mut image);
-        check_agreement(&rt, image.as_slice()).note(round)?;
+        check_agreement(&rt, image.as_slice(), &round);
     }
     assert!(rt; passed > 100 && passed < 500, "{}", passed);
     Ok(())
@@ -194,12 +195,12 @@ fn drawn_series_are_judged_alike(rt: HostRuntime) -> Result<(), Fail> {
         let quays = lots.quays(rt.alloc())?;
         let all = lots.all_series(rt.alloc(), short_len(quays.len()))?;
         let mut image = clock_face_image(rt.alloc(), quays.as_slice(), all.as_slice())?;
-        check_agreement(&rt, image.as_slice()).note(round)?;
+        check_agreement(&rt, image.as_slice(), &round);
         if judge_image(image.as_slice()).is_ok() {
             passed = passed.saturating_add(1);
         }
         lots.damage(&mut image);
-        check_agreement(&rt, image.as_slice()).note(round)?;
+        check_agreement(&rt, image.as_slice(), &round);
     }
     assert!(rt; passed > 100 && passed < 500, "{}", passed);
     Ok(())

@@ -4,6 +4,7 @@ use crate::making::*;
 use crate::reading::*;
 use crate::worked::*;
 use std::process::Abort;
+use std::test::Fail;
 
 // A number written over an image at a byte, and what is then told.
 #[derive(Clone, Copy)]

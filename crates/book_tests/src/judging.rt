@@ -3,8 +3,8 @@ use crate::reading::*;
 use binder::unbound::Unbound;
 use image::check::*;
 use image::fault::{Fault, Kind};
+use std::fmt::Display;
 use std::process::Abort;
-use std::test::Fail;
 use timetable::refusal::Refusal;
 
 pub(crate) fn told(fault: Fault) -> Told {
@@ -58,9 +58,12 @@ pub(crate) fn numbered<T>(answer: Result<T, Refusal>) -> Result<T, u8> {
 }
 
 // Both readings say the same, whichever kind the bytes are judged as.
-pub(crate) fn check_agreement(rt: &impl Abort, bytes: &[u8]) -> Result<(), Fail> {
-    assert_eq!(rt; judge_image(bytes), read_image(bytes));
-    assert_eq!(rt; judge_as(bytes, PRINTED), read_as(bytes, PRINTED));
-    assert_eq!(rt; judge_as(bytes, CLOCK_FACE), read_as(bytes, CLOCK_FACE));
-    Ok(())
+pub(crate) fn check_agreement(rt: &impl Abort, bytes: &[u8], said: &impl Display) {
+    assert_eq!(rt; judge_image(bytes), read_image(bytes), "{said}");
+    assert_eq!(rt; judge_as(bytes, PRINTED), read_as(bytes, PRINTED), "{said}");
+    assert_eq!(rt;
+        judge_as(bytes, CLOCK_FACE),
+        read_as(bytes, CLOCK_FACE),
+        "{said}"
+    );
 }

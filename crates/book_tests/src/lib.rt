@@ -1,4 +1,6 @@
 //! Tests of timetables, images, books and the binder.
+#![tactic(auto)]
+
 #[cfg(test)]
 mod agreement;
 #[cfg(test)]

@@ -5,6 +5,7 @@ use crate::reading::*;
 use image::quay::Quay;
 use image::series::Series;
 use std::alloc::{AllocError, Global};
+use std::test::Fail;
 use timetable::sailing::Sailing;
 
 // As many members as the day has minutes.

@@ -8,66 +8,70 @@ use image::quay::Quay;
 use image::series::Series;
 use std::alloc::{AllocError, Global};
 use std::process::Abort;
+use std::test::Fail;
 use timetable::book::Book;
 use timetable::sailing::Sailing;
 use timetable::span::Span;
 
-// A book has just these change times and sailings.
+// A book, of which this is said, has just these change times and sailings.
 fn check_holds<B: Book>(
     rt: &impl Abort,
+    said: &str,
     book: &B,
     quays: &[Quay],
     sailings: &[Sailing],
 ) -> Result<(), Fail> {
-    assert_eq!(rt; usize::from(book.quays()), quays.len());
-    assert_eq!(rt; usize::from(book.places()), sailings.len());
+    assert_eq!(rt; usize::from(book.quays()), quays.len(), "{said}");
+    assert_eq!(rt; usize::from(book.places()), sailings.len(), "{said}");
     for (number, quay) in (0..=65535u16).zip(quays) {
         assert_eq!(rt;
             numbered(book.change(number)),
             Ok(quay.change),
-            "{}",
-            number
+            "{said}: {number}"
         );
     }
     for (place, sailing) in (0..=65535u16).zip(sailings) {
         assert_eq!(rt;
             numbered(book.place(place)),
             Ok(Some(*sailing)),
-            "{}",
-            place
+            "{said}: {place}"
         );
     }
-    check_spans(rt, book, sailings)?;
-    check_out_of_range(rt, book);
+    check_spans(rt, said, book, sailings)?;
+    check_out_of_range(rt, said, book);
     Ok(())
 }
 
 // Each span has exactly the sailings that leave its quay.
-fn check_spans<B: Book>(rt: &impl Abort, book: &B, sailings: &[Sailing]) -> Result<(), Fail> {
+fn check_spans<B: Book>(
+    rt: &impl Abort,
+    said: &str,
+    book: &B,
+    sailings: &[Sailing],
+) -> Result<(), Fail> {
     for quay in 0..book.quays() {
         let Ok(span) = book.span(quay) else {
             return Err(Fail::new("a quay has no span"));
         };
         assert!(rt;
             span.start <= span.end && span.end <= book.places(),
-            "{}",
-            quay
+            "{said}: {quay}"
         );
         for (place, sailing) in (0..=65535u16).zip(sailings) {
             let inside = span.start <= place && place < span.end;
-            assert_eq!(rt; inside, sailing.from == quay, "{place} of {quay}");
+            assert_eq!(rt; inside, sailing.from == quay, "{said}: {place} of {quay}");
         }
     }
     Ok(())
 }
 
-fn check_out_of_range<B: Book>(rt: &impl Abort, book: &B) {
+fn check_out_of_range<B: Book>(rt: &impl Abort, said: &str, book: &B) {
     for quay in [book.quays(), book.quays().saturating_add(1), 32768, 65535] {
-        assert_eq!(rt; numbered(book.change(quay)), Err(11), "{}", quay);
-        assert_eq!(rt; numbered(book.span(quay)), Err(11), "{}", quay);
+        assert_eq!(rt; numbered(book.change(quay)), Err(11), "{said}: {quay}");
+        assert_eq!(rt; numbered(book.span(quay)), Err(11), "{said}: {quay}");
     }
     for place in [book.places(), book.places().saturating_add(1), 32768, 65535] {
-        assert_eq!(rt; numbered(book.place(place)), Err(13), "{}", place);
+        assert_eq!(rt; numbered(book.place(place)), Err(13), "{said}: {place}");
     }
 }
 
@@ -103,14 +107,15 @@ pub(crate) fn check_opens(
     sailings: &[Sailing],
 ) -> Result<(), Fail> {
     let book = Printed::open(bytes);
-    check_holds(rt, &book, quays, sailings)?;
+    check_holds(rt, "a printed book", &book, quays, sailings)?;
     check_names(rt, &book, quays)
 }
 
 // One nameless quay with change time 0, and no places.
-fn check_blank<B: Book>(rt: &impl Abort, book: &B) -> Result<(), Fail> {
+fn check_blank<B: Book>(rt: &impl Abort, said: &str, book: &B) -> Result<(), Fail> {
     check_holds(
         rt,
+        said,
         book,
         &[Quay {
             change: 0,
@@ -118,7 +123,11 @@ fn check_blank<B: Book>(rt: &impl Abort, book: &B) -> Result<(), Fail> {
         }],
         &[],
     )?;
-    assert_eq!(rt; numbered(book.span(0)), Ok(Span { start: 0, end: 0 }));
+    assert_eq!(rt;
+        numbered(book.span(0)),
+        Ok(Span { start: 0, end: 0 }),
+        "{said}"
+    );
     Ok(())
 }
 
@@ -149,7 +158,7 @@ fn expanded(heap: Global, all: &[Series]) -> Result<Vec<Sailing>, AllocError> {
 fn the_printed_book_holds_its_content(rt: HostRuntime) -> Result<(), Fail> {
     let bytes = printed_bytes(rt.alloc())?;
     let book = Printed::open(bytes.as_slice());
-    check_holds(&rt, &book, &QUAYS, &SAILINGS)?;
+    check_holds(&rt, "the printed book", &book, &QUAYS, &SAILINGS)?;
     assert_eq!(rt; numbered(book.span(0)), Ok(Span { start: 0, end: 2 }));
     assert_eq!(rt; numbered(book.span(1)), Ok(Span { start: 2, end: 5 }));
     assert_eq!(rt; numbered(book.span(2)), Ok(Span { start: 5, end: 6 }));
@@ -162,7 +171,13 @@ fn the_clock_face_book_holds_its_members(rt: HostRuntime) -> Result<(), Fail> {
     let bytes = clock_face_bytes(rt.alloc())?;
     let book = ClockFace::open(bytes.as_slice());
     let sailings = expanded(rt.alloc(), &ALL_SERIES)?;
-    check_holds(&rt, &book, &QUAYS, sailings.as_slice())?;
+    check_holds(
+        &rt,
+        "the clock-face book",
+        &book,
+        &QUAYS,
+        sailings.as_slice(),
+    )?;
     assert_eq!(rt; book.places(), 10);
     assert_eq!(rt;
         numbered(book.place(5)),
@@ -211,6 +226,7 @@ fn the_largest_clock_face_book_holds_its_members(rt: HostRuntime) -> Result<(), 
     assert_eq!(rt; sailings.len(), 3072);
     check_holds(
         &rt,
+        "the largest book",
         &ClockFace::open(bytes.as_slice()),
         quays.as_slice(),
         sailings.as_slice(),
@@ -222,33 +238,33 @@ fn bytes_of_the_other_kind_open_blank(rt: HostRuntime) -> Result<(), Fail> {
     let printed = printed_bytes(rt.alloc())?;
     let clock_face = clock_face_bytes(rt.alloc())?;
     let first = Printed::open(clock_face.as_slice());
-    check_blank(&rt, &first)?;
+    check_blank(&rt, "opened as printed", &first)?;
     assert_eq!(rt; numbered(first.name(0)), Ok(&[][..]));
     assert_eq!(rt; numbered(first.name(1)), Err(11));
     let second = ClockFace::open(printed.as_slice());
-    check_blank(&rt, &second)?;
+    check_blank(&rt, "opened as clock-face", &second)?;
     assert_eq!(rt; numbered(second.name(0)), Ok(&[][..]));
     assert_eq!(rt; numbered(second.name(1)), Err(11));
     Ok(())
 }
 
-// Opened as either kind, the bytes are a blank book.
-fn check_opens_blank(rt: &impl Abort, bytes: &[u8]) -> Result<(), Fail> {
-    check_blank(rt, &Printed::open(bytes))?;
-    check_blank(rt, &ClockFace::open(bytes))
+// Opened as either kind, the bytes, of which this is said, are a blank book.
+fn check_opens_blank(rt: &impl Abort, said: &str, bytes: &[u8]) -> Result<(), Fail> {
+    check_blank(rt, said, &Printed::open(bytes))?;
+    check_blank(rt, said, &ClockFace::open(bytes))
 }
 
 #[test]
 fn refused_bytes_open_blank(rt: HostRuntime) -> Result<(), Fail> {
-    check_opens_blank(&rt, &[]).note("no bytes")?;
+    check_opens_blank(&rt, "no bytes", &[])?;
     let mut bytes = printed_bytes(rt.alloc())?;
     bytes.push(0)?;
-    check_opens_blank(&rt, bytes.as_slice()).note("a byte more")?;
+    check_opens_blank(&rt, "a byte more", bytes.as_slice())?;
     bytes.truncate(175);
-    check_opens_blank(&rt, bytes.as_slice()).note("a byte less")?;
+    check_opens_blank(&rt, "a byte less", bytes.as_slice())?;
     let mut series = clock_face_bytes(rt.alloc())?;
     set_number(&mut series, 114, 40);
-    check_opens_blank(&rt, series.as_slice()).note("a series leaves the day")
+    check_opens_blank(&rt, "a series leaves the day", series.as_slice())
 }
 
 #[test]
