@@ -3,7 +3,6 @@ use books::printed::Printed;
 use departureheap::departure::Departure;
 use departures::list::list_departures;
 use std::process::Abort;
-use std::test::Fail;
 
 // Four quays and six sailings: two from quay 0, three from quay 1, one from quay 2 and none from quay 3.
 static WORKED: [u8; 176] = *b"\x0e\x00\x01\x00\x04\x00\x06\x00\x00\x00\x00\x00\x00\x00\x00\x00\
@@ -56,20 +55,22 @@ fn told(
     }
 }
 
-fn check_rows(rt: &impl Abort, rows: &[Departure], due: &[(u16, u32)]) -> Result<(), Fail> {
-    assert_eq!(rt; rows.len(), due.len());
+// The rows that were told for a quay from a minute.
+fn check_rows(rt: &impl Abort, quay: u16, minute: u16, rows: &[Departure], due: &[(u16, u32)]) {
+    assert_eq!(rt; rows.len(), due.len(), "quay {} from {}", quay, minute);
     for (row, is) in rows.iter().zip(due) {
-        assert_eq!(rt; (row.place, row.minute), *is);
+        assert_eq!(rt;
+            (row.place, row.minute),
+            *is,
+            "quay {} from {}",
+            quay,
+            minute
+        );
     }
-    Ok(())
 }
 
 // Each case is a quay, a minute, what is told, and what the rows then hold.
-fn check_lists(
-    rt: &impl Abort,
-    image: &[u8],
-    cases: &[(u16, u16, u16, [(u16, u32); 6])],
-) -> Result<(), Fail> {
+fn check_lists(rt: &impl Abort, image: &[u8], cases: &[(u16, u16, u16, [(u16, u32); 6])]) {
     for case in cases {
         let mut store = [BLANK; 6];
         let mut rows = [BLANK; 6];
@@ -80,13 +81,12 @@ fn check_lists(
             case.0,
             case.1
         );
-        check_rows(rt, &rows, &case.3).note(format_args!("quay {} from {}", case.0, case.1))?;
+        check_rows(rt, case.0, case.1, &rows, &case.3);
     }
-    Ok(())
 }
 
 #[test]
-fn sailings_of_a_quay_are_listed(rt: HostRuntime) -> Result<(), Fail> {
+fn sailings_of_a_quay_are_listed(rt: HostRuntime) {
     check_lists(
         &rt,
         &WORKED,
@@ -103,11 +103,11 @@ fn sailings_of_a_quay_are_listed(rt: HostRuntime) -> Result<(), Fail> {
             // none leaves quay 3
             (3, 0, 0, [OLD, OLD, OLD, OLD, OLD, OLD]),
         ],
-    )
+    );
 }
 
 #[test]
-fn sailings_of_one_minute_are_listed_by_place(rt: HostRuntime) -> Result<(), Fail> {
+fn sailings_of_one_minute_are_listed_by_place(rt: HostRuntime) {
     check_lists(
         &rt,
         &ABREAST,
@@ -115,11 +115,11 @@ fn sailings_of_one_minute_are_listed_by_place(rt: HostRuntime) -> Result<(), Fai
             (1, 505, 3, [(2, 505), (3, 505), (4, 505), OLD, OLD, OLD]),
             (1, 506, 3, [(2, 1945), (3, 1945), (4, 1945), OLD, OLD, OLD]),
         ],
-    )
+    );
 }
 
 #[test]
-fn the_first_cause_refuses_and_the_rows_stand(rt: HostRuntime) -> Result<(), Fail> {
+fn the_first_cause_refuses_and_the_rows_stand(rt: HostRuntime) {
     let none = [OLD; 6];
     check_lists(
         &rt,
@@ -130,7 +130,7 @@ fn the_first_cause_refuses_and_the_rows_stand(rt: HostRuntime) -> Result<(), Fai
             (3, 1440, REFUSED + 12, none),
             (1, 65535, REFUSED + 12, none),
         ],
-    )
+    );
 }
 
 fn check_untouched(rt: &impl Abort, rows: &[Departure]) {
