@@ -1,5 +1,5 @@
 -- One notice, a thin, and then a route. Assumes nothing.
-use Rattle.std.proofs.Common.{◌≡◌, ℕ, zero, suc, Bool, true, false, cond, ◌&&◌, ◌||◌, eqb, is_ok, Ok, Option, Result, sym, refl, ap, ◌∙◌, subst}
+use Rattle.std.proofs.Common.{◌≡◌, ℕ, zero, suc, true, false, cond, ◌&&◌, ◌||◌, eqb, is_ok, Ok, Option, Result, sym, refl, ap, ◌∙◌, subst}
 use Rattle.timetable.specs.declared.query.Query.{Query}
 use Rattle.timetable.specs.declared.refusal.Refusal.{Refusal}
 use Rattle.timetable.specs.Timetables.{Timetable}
@@ -12,7 +12,7 @@ use Rattle.routing.specs.Route.{Lent, Routed}
 use Rattle.board.specs.declared.calls.Call.TheVariants.{Withhold, Thin, Route}
 use Rattle.board.specs.declared.calls.Answer.TheVariants.{Notice, Count, Told}
 use Rattle.board.specs.History.{event, History, new, ◌then◌}
-use Rattle.board.specs.Force.{all_runs, withheld, out_of_force, book_in_force}
+use Rattle.board.specs.Force.{all_runs, out_of_force, book_in_force}
 use Rattle.board.specs.States.{State}
 use Rattle.board.specs.Kept.{Kept, Carries, CarriesOn}
 use Rattle.board_tests.specs.Without.{RoutedWithout}

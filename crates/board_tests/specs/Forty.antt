@@ -1,5 +1,5 @@
 -- What a book of forty quays and no sailings means. Assumes nothing.
-use Rattle.std.specs.Prelude.{◌≡◌, ℕ, zero, suc, ◌<◌, ◌≤◌, List, [], length, replicate, slice_index_or, refl}
+use Rattle.std.specs.Prelude.{◌≡◌, ℕ, zero, suc, ◌<◌, ◌≤◌, [], replicate, slice_index_or, refl}
 use Rattle.std.proofs.Common.{sym, subst, arith}
 use Rattle.timetable.specs.declared.span.Span.{Span}
 use Rattle.timetable.specs.Times.{day}

@@ -19,7 +19,7 @@ fn without_run<B: Book + Drop, L: Line>(
     legs: &mut [Leg],
     query: Query,
 ) -> Result<Option<Found>, Refusal>
-    ensures { RoutedWithout (meaning opened) run query (lent (keys line.old) labels.old legs.old) (lent (keys line.new) labels.new legs.new) result }
+    ensures { RoutedWithout (B.meaning opened) run query (lent (L.keys line.old) labels.old legs.old) (lent (L.keys line.new) labels.new legs.new) result }
 {
     let mut board = Board::new(opened);
     let _ = board.withhold(run);
