@@ -1,5 +1,5 @@
 -- Bounds for any book and query: the least arrivals with the sailing at each place, made round by round. Nothing is claimed of them, since a test judges them. Assumes nothing.
-use Rattle.std.proofs.Common.{ℕ, zero, suc, ◌+◌, min, cond, eqb, List, [], ◌∷◌, length, get_or, Some, None, Option}
+use Rattle.std.proofs.Common.{ℕ, zero, suc, ◌+◌, min, cond, eqb, List, [], ◌∷◌, length, Some, None, Option}
 use Rattle.timetable.specs.declared.sailing.Sailing.{Sailing}
 use Rattle.timetable.specs.declared.query.Query.{Query}
 use Rattle.timetable.specs.Classes.{class_minutes}

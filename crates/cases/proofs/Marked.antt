@@ -1,8 +1,6 @@
 -- The marks of the worked book as one computed test. Assumes nothing.
-use Rattle.std.proofs.Common.{◌≡◌, ℕ, Bool, true, false, not, List, length, get_or, Some, sym, refl, ap, ◌∙◌}
+use Rattle.std.proofs.Common.{◌≡◌, Bool, true, false, not, List, length, get_or, sym, refl, ap, ◌∙◌}
 use Rattle.std.proofs.lemmas.Bool.Decides.{Decides-at}
-use Rattle.timetable.specs.declared.sailing.Sailing.{Sailing}
-use Rattle.timetable.specs.Timetables.{place_at}
 use Rattle.tables.specs.Lists.{many}
 use Rattle.thinning.specs.Margins.{passes}
 use Rattle.thinning.specs.Dominance.{dominated, mark_of, dominated_in}

@@ -1,15 +1,15 @@
 -- The table of worked cases as one computed test. Assumes nothing.
-use Rattle.std.proofs.Common.{◌≡◌, ℕ, ◌≤◌, Bool, true, false, ◌&&◌, List, [], ◌∷◌, map, Some, None, Option, refl}
-use Rattle.std.specs.List.{AllByRecursion as All}
-use Rattle.std.proofs.lemmas.Bool.{and_parts, eqb-true, false≢true}
+use Rattle.std.proofs.Common.{◌≡◌, ℕ, Bool, true, ◌&&◌, List, [], ◌∷◌, map, Some, None, Option, refl}
+use Rattle.std.specs.List.{AllByRecursion}
+use Rattle.std.proofs.lemmas.Bool.{and_parts, false≢true}
 use Rattle.timetable.specs.declared.query.Query.{Query}
 use Rattle.timetable.specs.declared.query.Leg.{Leg}
 use Rattle.timetable.specs.Classes.{class_minutes}
 use Rattle.timetable.specs.Timetables.{Timetable}
-use Rattle.journey.specs.Journeys.{start, Journey, NoJourney}
+use Rattle.journey.specs.Journeys.{start}
 use Rattle.cases.specs.declared.case.Case.{Case}
 use Rattle.cases.specs.Mill.{mill}
-use Rattle.cases.proofs.Tests.{Potential, no_sooner, leads_to, no_legs, holds}
+use Rattle.cases.proofs.Tests.{Potential, leads_to, no_legs, holds}
 use Rattle.cases.specs.Cases.{asks, questions, question_of, book_for, Answered, Right, Worked}
 use Rattle.cases.proofs.Bounds.{bounds_for}
 use Rattle.cases.proofs.Plans.{plan_leads}
@@ -39,7 +39,7 @@ abbrev pub table_holds : List Case → Bool
 table_holds [] = true
 table_holds (c ∷ cases) = row_holds c && table_holds cases
 
-pub table_right : (cases : List Case) → table_holds cases ≡ true → All Right cases
+pub table_right : (cases : List Case) → table_holds cases ≡ true → AllByRecursion Right cases
 table_right [] h = tt
 table_right (c ∷ cases) h =
     let both = and_parts (row_holds c) _ h in
