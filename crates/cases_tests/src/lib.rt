@@ -1,3 +1,5 @@
 //! The worked cases, run through the code that answers them.
+#![tactic(auto)]
+
 #[cfg(test)]
 mod tests;
