@@ -1,4 +1,6 @@
 //! Binds the timetable that is typed on standard input into book.img, and tells what it then reads there.
+#![tactic(auto)]
+
 mod blame;
 mod draft;
 mod ending;
