@@ -70,7 +70,7 @@ fn a_damaged_heading_is_told(rt: HostRuntime) -> Result<(), Fail> {
 #[test]
 fn a_heading_of_other_records_is_told(rt: HostRuntime) -> Result<(), Fail> {
     let damages = [
-        // a clock_face image whose first series is a sailing
+        // a clock-face image whose first series is a sailing
         case(2, 2, 2, 80, 3, 0),
         // a quay too few, a quay too many
         case(4, 3, 2, 66, 3, 0),

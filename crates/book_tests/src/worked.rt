@@ -1,4 +1,4 @@
-//! A printed book and a clock_face book, each small, and what they hold.
+//! A printed book and a clock-face book, each small, and what they hold.
 use crate::making::*;
 use image::quay::Quay;
 use image::series::Series;
