@@ -20,13 +20,22 @@ OWN = {
     "sailing-of": "sailing_of_lem",
     "time-here": "time_here_lem",
     "settle-first": "settle_first_lem",
+    "quay-at": "quay_start",
+    "all-below": "all_below_lem",
+    "letter-is": "letter_is_lem",
+    "no-legs": "no_legs_lem",
+    "no-sooner": "no_sooner_lem",
+    "some-passes": "some_passes_lem",
+    "span-at": "span_at_lem",
+    "weight-from": "weight_from_lem",
 }
 
 # a lemma file whose name Rattle wants for itself
 MODULES = {"Hidden": "HidingLemmas"}
 
 WORD = r"[^\W\d][\w'\-]*"
-KNOWN_STD = set("length take drop set map append replicate reverse sum and or not add sub mul div mod le lt eq".split())
+# words of the library that stand on one side of a dash
+KNOWN_STD = set("length take drop set map append replicate reverse sum get_or filter flat_map cond mod".split())
 
 
 def files(ends):
@@ -74,8 +83,18 @@ def snake(name):
     return re.sub(r"(?<=[a-z0-9])([A-Z])", lambda m: "_" + m.group(1).lower(), name)
 
 
-def respelled(names):
-    plain = {snake(n) for n in names if "-" not in n} | KNOWN_STD
+def words():
+    """functions that our specs define, by their new names: what a dash may stand between"""
+    out = set(KNOWN_STD)
+    for path in files(".antt"):
+        if "/specs/" in path:
+            for m in re.finditer(r"^(?:abbrev |unfoldable )(?:pub )?([a-z][\w']*) :", bare(open(path, encoding="utf-8").read()), re.M):
+                out.add(snake(m.group(1)))
+    return out
+
+
+def respelled(names, fields):
+    plain = words()
     out = {}
     for name in names:
         if not name[0].islower():
@@ -91,23 +110,19 @@ def respelled(names):
             new = parts[0]
             for i, part in enumerate(parts[1:], 1):
                 left = re.split("-", new)[-1]
-                dash = left in plain and "_".join(parts[i:]) in plain
+                dash = name not in fields and left in plain and "_".join(parts[i:]) in plain
                 new += ("-" if dash else "_") + part
         if new != name:
             out[name] = new
     return out
 
 
-def token(name):
-    return re.compile(r"(?<![\w'\-])" + re.escape(name) + r"(?![\w'\-])")
-
-
 def main():
     names = defined()
-    new = respelled(names)
     listing = "--list" in sys.argv
     paths = list(files((".antt", ".rt")))
     fields = fields_of(paths)
+    new = respelled(names, fields)
     texts = {p: open(p, encoding="utf-8").read() for p in paths}
     toks = {p: set(re.findall(WORD, t)) for p, t in texts.items()}
     if listing:
@@ -129,8 +144,24 @@ def main():
         return
     whole = re.compile(r"(?<![\w'\-])(" + "|".join(sorted((re.escape(n) for n in new), key=len, reverse=True)) + r")(?![\w'\-])")
     for p, t in texts.items():
-        # behind a dot a dashed name is ours only where it is a field: else it is a step that Rattle names
-        u = whole.sub(lambda m: m.group(1) if "-" in m.group(1) and m.group(1) not in fields and t[m.start() - 1] == "." else new[m.group(1)], t)
+        aliases = {name for path, name in re.findall(r"^use ([\w.+]+) as (\w+)", t, re.M) if not path.endswith((".Goals", ".Given"))}
+
+        # Behind a dot a dashed name is ours only where it is a field, a constructor behind its type, or a lemma behind its module: else it is a
+        # step that Rattle names. In prose the words of a name stay apart.
+        def ours(m):
+            name, before = m.group(1), t[: m.start()]
+            if "-" not in name:
+                return new[name]
+            line = before[before.rfind("\n") + 1 :]
+            if re.search(r"(?:^|\s)(?:--|//)", line):
+                return name
+            if before.endswith(".") and name not in fields:
+                owner = re.search(r"(\w+)\.$", before)
+                if not owner or not (owner.group(1)[0].isupper() or owner.group(1) in aliases):
+                    return name
+            return new[name]
+
+        u = whole.sub(ours, t)
         for a, b in MODULES.items():
             u = re.sub(r"(?<=\bproofs\.)%s\b|(?<=\bmod )%s\b" % (a, a), b, u)
         if u != t:

@@ -28,7 +28,7 @@ with_sailing_line xs line (OfSailing s) = xs ++ line ∷ []
 
 -- one draft is another with what a line said
 pub record Adds (old : Draft) (line : ℕ) (entry : Entry) (new : Draft) : Type 0 where
-  pub quays-kept : vec_items new.quays ≡ with_quay (vec_items old.quays) entry
-  pub sailings-kept : vec_items new.sailings ≡ with_sailing (vec_items old.sailings) entry
+  pub quays_kept : vec_items new.quays ≡ with_quay (vec_items old.quays) entry
+  pub sailings_kept : vec_items new.sailings ≡ with_sailing (vec_items old.sailings) entry
   pub quay_lines_kept : vec_items new.quay_lines ≡ with_quay_line (vec_items old.quay_lines) line entry
   pub sailing_lines_kept : vec_items new.sailing_lines ≡ with_sailing_line (vec_items old.sailing_lines) line entry

@@ -18,6 +18,7 @@ use booktext::line::read_line;
 use image::check::check_printed;
 use std::fs;
 use std::io::{BufRead, BufReader};
+use std::process::ExitCode;
 
 const LONGEST_IMAGE: usize = 53264;
 
@@ -86,10 +87,13 @@ fn run(rt: &HostRuntime) -> anyhow::Result<()> {
     list_book(rt, written.as_slice())
 }
 
-fn main(rt: HostRuntime) -> anyhow::Result<()> {
-    let outcome = run(&rt);
-    if let Err(error) = &outcome {
-        eprintln!(rt; "bindbook: {error}")?;
+fn main(rt: HostRuntime) -> ExitCode {
+    match run(&rt) {
+        Ok(()) => ExitCode::SUCCESS,
+        Err(error) => {
+            // where this cannot be written either, the status alone tells
+            let _ = eprintln!(rt; "bindbook: {error}");
+            ExitCode::FAILURE
+        }
     }
-    outcome
 }

@@ -4,11 +4,11 @@ use lib.Seq.{drop-append-add}
 use Rattle.std.specs.List.{flat_map, AllByRecursion as All}
 use Rattle.std.proofs.lemmas.List.{take_at, drop-drop, length-take-le, take_more, flat_map_more}
 use Rattle.std.proofs.ByRecursion.{All-take}
-use Rattle.image.proofs.Cuts.{length-joined}
+use Rattle.image.proofs.Cuts.{length_joined}
 use Rattle.image.specs.declared.quay.Quay.{Quay}
 use Rattle.timetable.specs.declared.sailing.Sailing.{Sailing}
 use Rattle.image.specs.Layout.{heading_bytes, quay_bytes, sailing_bytes}
-use Rattle.image.proofs.Laid.{all-sized}
+use Rattle.image.proofs.Laid.{all_sized}
 use Rattle.binder.specs.Binding.{written, over, book_bytes}
 
 pub written_none : (at : ℕ) (d : List ℕ) → d ≡ written at [] d
@@ -33,7 +33,7 @@ written-written at n xs ys d e l =
 -- one more row written
 pub row_written : {X : Type 0} (f : X → List ℕ) (xs : List X) (i start : ℕ) (x : X) (d : List ℕ) → All (λ x. length (f x) ≡ 16) xs → i < length xs → start ≤ length d → written (start + 16 * i) (f (get_or xs i x)) (written start (flat_map f (take i xs)) d) ≡ written start (flat_map f (take (i + 1) xs)) d
 row_written f xs i start x d h l s =
-    let long : length (flat_map f (take i xs)) ≡ 16 * i = length-joined f 16 (take i xs) (All-take (λ x. length (f x) ≡ 16) i xs h) ∙ ap (λ k. 16 * k) (length-take-le i xs (omega arith)) in
+    let long : length (flat_map f (take i xs)) ≡ 16 * i = length_joined f 16 (take i xs) (All-take (λ x. length (f x) ≡ 16) i xs h) ∙ ap (λ k. 16 * k) (length-take-le i xs (omega arith)) in
     written-written start (start + 16 * i) (flat_map f (take i xs)) (f (get_or xs i x)) d (omega arith) s
     ∙ ap (λ t. written start t d) (flat_map_more f [] (take i xs) (get_or xs i x) ∙ ap (flat_map f) (sym (take_more xs i x l)))
 
@@ -44,7 +44,7 @@ book_written quays xs d l =
     let Q = flat_map quay_bytes quays in
     let S = flat_map sailing_bytes xs in
     let at = 16 * (1 + length quays) in
-    let long = length-joined quay_bytes 16 quays (all-sized quay_bytes 16 (λ x. refl) quays) in
+    let long = length_joined quay_bytes 16 quays (all_sized quay_bytes 16 (λ x. refl) quays) in
     ap (written at S) (written-written 0 16 H Q d refl (omega arith))
     ∙ written-written 0 at (H ++ Q) S d (omega (arith, long)) (omega arith)
     ∙ ap (λ t. written 0 t d) (append_assoc H Q S)

@@ -49,6 +49,6 @@ Accepts r quays sailings room = PrintedKept quays sailings → length (book_byte
 -- bytes that are the image of a printed book with just these change times, names and sailings
 pub record Holds (bs : List ℕ) (quays : List Quay) (sailings : List Sailing) : Type 0 where
   pub content : PrintedOf bs
-  pub same-changes : map (λ q. q.change) content.quays ≡ map (λ q. q.change) quays
+  pub same_changes : map (λ q. q.change) content.quays ≡ map (λ q. q.change) quays
   pub same_names : map (λ q. q.name) content.quays ≡ map (λ q. letters q.name) quays
-  pub same-sailings : content.sailings ≡ sailings
+  pub same_sailings : content.sailings ≡ sailings

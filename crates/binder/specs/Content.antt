@@ -6,19 +6,19 @@ use Rattle.timetable.specs.declared.sailing.Sailing.{Sailing}
 use Rattle.image.specs.declared.fault.Part.TheVariants.{Heading, Quays, Entries}
 use Rattle.image.specs.declared.quay.Quay.{Quay}
 use Rattle.image.specs.Checks.{Check, unless, fault, up_to}
-use Rattle.image.specs.Records.{quay-at, entry_at}
+use Rattle.image.specs.Records.{quay_start, entry_at}
 
 abbrev pub sizes : ℕ → ℕ → Check
 sizes n m = result_and (unless (nat_le 1 n && nat_le n 256) (fault OutOfLimits Heading 0 4)) (unless (nat_le m 3072) (fault OutOfLimits Heading 0 6))
 
 abbrev pub letter_is : ℕ → ℕ → ℕ → Check
-letter_is b row i = unless (nat_le 32 b && nat_le b 126) (fault OutOfLimits Quays row (quay-at row + 6 + i))
+letter_is b row i = unless (nat_le 32 b && nat_le b 126) (fault OutOfLimits Quays row (quay_start row + 6 + i))
 
 abbrev pub letter : Quay → ℕ → ℕ → Check
 letter q row i = letter_is (slice_index q.name i) row i
 
 abbrev pub quay_of : Quay → ℕ → Check
-quay_of q row = result_and (unless (nat_le q.change 1439) (fault OutOfLimits Quays row (quay-at row + 4))) (up_to (letter q row) 10)
+quay_of q row = result_and (unless (nat_le q.change 1439) (fault OutOfLimits Quays row (quay_start row + 4))) (up_to (letter q row) 10)
 
 abbrev pub ends_of : Sailing → ℕ → ℕ → ℕ → ℕ → Check
 ends_of s before quays row at =

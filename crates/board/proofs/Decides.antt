@@ -3,8 +3,8 @@ use Rattle.std.proofs.Common.{◌≡◌, ℕ, ◌≤◌, Bool, ◌||◌, ltb, Li
 use Rattle.timetable.specs.declared.query.Query.{Query}
 use Rattle.timetable.specs.declared.refusal.Refusal.{Refusal}
 use Rattle.timetable.specs.Timetables.{Timetable}
-use Rattle.timetable.proofs.HidingLemmas.{hide-same}
-use Rattle.tables.proofs.Counts.{many-same}
+use Rattle.timetable.proofs.HidingLemmas.{hide_same}
+use Rattle.tables.proofs.Counts.{many_same}
 use Rattle.thinning.specs.Dominance.{dominated_in}
 use Rattle.layers.specs.Notices.{withhold_answer, release_answer, shut_answer, open_answer}
 use Rattle.routing.specs.declared.found.Found.{Found}
@@ -33,16 +33,16 @@ module _ (T : Timetable) (q : Query) (g l g' l' : Lent) (room : SameRoom g g') w
       ap (λ (n : ℕ). cause_of q (length T.changes) (length T.places) n (length g.legs) (length g.keys)) room.labels
       ∙ ap₂ (λ (n m : ℕ). cause_of q (length T.changes) (length T.places) (length g'.labels) n m) room.legs room.items
 
-  told-decided : (r s : Result (Option Found) Refusal) → Routed T q g l r → Routed T q g' l' s → legless r ≡ legless s
-  told-decided (Err e) (Err d) x y = ap Err (same_cause (cause_in T q g) e d x.0 (cause_is ∙ y.0))
-  told-decided (Err e) (Ok None) x y = absurd (clash (cause_in T q g) e x.0 (cause_is ∙ y.0))
-  told-decided (Err e) (Ok (Some f)) x y = absurd (clash (cause_in T q g) e x.0 (cause_is ∙ y.0))
-  told-decided (Ok None) (Err d) x y = absurd (clash (cause_in T q g) d (cause_is ∙ y.0) x.0)
-  told-decided (Ok None) (Ok None) x y = refl
-  told-decided (Ok None) (Ok (Some f)) x y = absurd (x.1.0 (take f.legs l'.legs) f.arrival y.1.journey)
-  told-decided (Ok (Some f)) (Err d) x y = absurd (clash (cause_in T q g) d (cause_is ∙ y.0) x.0)
-  told-decided (Ok (Some f)) (Ok None) x y = absurd (y.1.0 (take f.legs l.legs) f.arrival x.1.journey)
-  told-decided (Ok (Some f)) (Ok (Some k)) x y =
+  told_decided : (r s : Result (Option Found) Refusal) → Routed T q g l r → Routed T q g' l' s → legless r ≡ legless s
+  told_decided (Err e) (Err d) x y = ap Err (same_cause (cause_in T q g) e d x.0 (cause_is ∙ y.0))
+  told_decided (Err e) (Ok None) x y = absurd (clash (cause_in T q g) e x.0 (cause_is ∙ y.0))
+  told_decided (Err e) (Ok (Some f)) x y = absurd (clash (cause_in T q g) e x.0 (cause_is ∙ y.0))
+  told_decided (Ok None) (Err d) x y = absurd (clash (cause_in T q g) d (cause_is ∙ y.0) x.0)
+  told_decided (Ok None) (Ok None) x y = refl
+  told_decided (Ok None) (Ok (Some f)) x y = absurd (x.1.0 (take f.legs l'.legs) f.arrival y.1.journey)
+  told_decided (Ok (Some f)) (Err d) x y = absurd (clash (cause_in T q g) d (cause_is ∙ y.0) x.0)
+  told_decided (Ok (Some f)) (Ok None) x y = absurd (y.1.0 (take f.legs l.legs) f.arrival x.1.journey)
+  told_decided (Ok (Some f)) (Ok (Some k)) x y =
       let up : f.arrival ≤ k.arrival = x.1.earliest (take k.legs l'.legs) k.arrival y.1.journey in
       let down : k.arrival ≤ f.arrival = y.1.earliest (take f.legs l.legs) f.arrival x.1.journey in
       ap (λ (n : ℕ). legless (Ok (Some (record { arrival = n; legs = 0 })))) (omega arith)
@@ -50,24 +50,24 @@ module _ (T : Timetable) (q : Query) (g l g' l' : Lent) (room : SameRoom g g') w
 -- after histories in which the same runs are withheld and the same quays shut
 module _ (t : Timetable) (h k : History) (runs : (x : ℕ) → withheld h x ≡ withheld k x) (quays : (x : ℕ) → is_shut h x ≡ is_shut k x) where
   force_is : book_in_force t h ≡ book_in_force t k
-  force_is = hide-same (out_of_force h) (out_of_force k) (λ p s. ap₂ ◌||◌ (runs s.run) (ap₂ ◌||◌ (quays s.from) (quays s.to))) t
+  force_is = hide_same (out_of_force h) (out_of_force k) (λ p s. ap₂ ◌||◌ (runs s.run) (ap₂ ◌||◌ (quays s.from) (quays s.to))) t
 
   same_answer : (c : Call) (a b : Answer) (g l g' l' : Lent) → SameRoom g g' → Answers t h c a g l → Answers t k c b g' l' → decided a ≡ decided b
   same_answer (Withhold run) a b g l g' l' room x y = ap decided
-      (x.0 ∙ ap₂ (λ (held : Bool) (n : ℕ). Notice (withhold_answer held n)) (runs run) (many-same (withheld h) (withheld k) runs all_runs) ∙ sym y.0)
+      (x.0 ∙ ap₂ (λ (held : Bool) (n : ℕ). Notice (withhold_answer held n)) (runs run) (many_same (withheld h) (withheld k) runs all_runs) ∙ sym y.0)
   same_answer (Release run) a b g l g' l' room x y = ap decided (x.0 ∙ ap (λ (held : Bool). Notice (release_answer held)) (runs run) ∙ sym y.0)
   same_answer (Shut quay) a b g l g' l' room x y = ap decided
-      (x.0 ∙ ap₂ (λ (held : Bool) (n : ℕ). Notice (shut_answer (ltb quay (length t.changes)) held n)) (quays quay) (many-same (is_shut h) (is_shut k) quays (length t.changes)) ∙ sym y.0)
+      (x.0 ∙ ap₂ (λ (held : Bool) (n : ℕ). Notice (shut_answer (ltb quay (length t.changes)) held n)) (quays quay) (many_same (is_shut h) (is_shut k) quays (length t.changes)) ∙ sym y.0)
   same_answer (Open quay) a b g l g' l' room x y = ap decided (x.0 ∙ ap (λ (held : Bool). Notice (open_answer (ltb quay (length t.changes)) held)) (quays quay) ∙ sym y.0)
   same_answer Thin a b g l g' l' room x y = ap decided (x.0 ∙ ap (λ (u : Timetable). Count (dominated_in u)) force_is ∙ sym y.0)
   same_answer (Route q) a b g l g' l' room x y =
       ap decided x.1
-      ∙ ap Told (told-decided (book_in_force t h) q g l g' l' room x.0 y.0 x.2 (subst (λ (u : Timetable). Routed u q g' l' y.0) (sym force_is) y.2))
+      ∙ ap Told (told_decided (book_in_force t h) q g l g' l' room x.0 y.0 x.2 (subst (λ (u : Timetable). Routed u q g' l' y.0) (sym force_is) y.2))
       ∙ sym (ap decided y.1)
 
 -- the plain board, fed the same calls, keeps what either history says
-pub answers-decided : AnswersDecided
-answers-decided t h k right right' calls =
+pub answers_decided : AnswersDecided
+answers_decided t h k right right' calls =
     let one = plain_agrees t h right in
     let other = plain_agrees t k right' in
     same_answer t h k

@@ -2,7 +2,7 @@
 use Rattle.std.proofs.Common.{◌≡◌, ℕ, zero, suc, ◌<◌, ◌≤◌, Bool, true, false, cond, ◌&&◌, eqb, List, [], ◌∷◌, ◌++◌, length, sym, refl, ap, ◌∙◌, subst, ap₂, ⊎_elim, arith}
 use Rattle.std.proofs.lemmas.Bool.{true≢false, false≢true, cases_Bool, cases_lt, cond-true, cond-false, eqb-true, eqb-false, eq-eqb, ne_eqb}
 use Rattle.tables.specs.Lists.{has, without, many}
-use Rattle.tables.proofs.Counts.{many-same}
+use Rattle.tables.proofs.Counts.{many_same}
 use Rattle.board.specs.Kept.{Distinct, Lists}
 
 pub and_true : (b : Bool) → (b && true) ≡ b
@@ -94,15 +94,15 @@ length-many (y ∷ xs) n d b =
 
 module _ (test : ℕ → Bool) (n : ℕ) (xs : List ℕ) (l : Lists test n xs) where
   -- how many they are
-  pub lists-many : length xs ≡ many test n
-  lists-many = length-many xs n l.distinct l.below ∙ many-same (λ x. has x xs) test l.has-is n
+  pub lists_many : length xs ≡ many test n
+  lists_many = length-many xs n l.distinct l.below ∙ many_same (λ x. has x xs) test l.has_is n
 
-  pub lists-same : (now : ℕ → Bool) → ((x : ℕ) → now x ≡ test x) → Lists now n xs
-  lists-same now h = record { has-is = λ x. l.has-is x ∙ sym (h x); distinct = l.distinct; below = l.below }
+  pub lists_same : (now : ℕ → Bool) → ((x : ℕ) → now x ≡ test x) → Lists now n xs
+  lists_same now h = record { has_is = λ x. l.has_is x ∙ sym (h x); distinct = l.distinct; below = l.below }
 
   pub lists_push : (y : ℕ) → y < n → has y xs ≡ false → (now : ℕ → Bool) → ((x : ℕ) → now x ≡ cond (eqb x y) true (test x)) → Lists now n (xs ++ (y ∷ []))
   lists_push y k none now h = record {
-    has-is = λ x. has_push x y xs ∙ ap (λ b. cond (eqb x y) true b) (l.has-is x) ∙ sym (h x);
+    has_is = λ x. has_push x y xs ∙ ap (λ b. cond (eqb x y) true b) (l.has_is x) ∙ sym (h x);
     distinct = distinct_push y xs none l.distinct;
     below = λ x e. ⊎_elim
         (λ (s : eqb x y ≡ true). let q = eqb-true x y s in omega (arith, q, k))
@@ -110,9 +110,9 @@ module _ (test : ℕ → Bool) (n : ℕ) (xs : List ℕ) (l : Lists test n xs) w
         (cases_Bool (eqb x y));
   }
 
-  pub lists-without : (y : ℕ) (now : ℕ → Bool) → ((x : ℕ) → now x ≡ cond (eqb x y) false (test x)) → Lists now n (without y xs)
-  lists-without y now h = record {
-    has-is = λ x. has-without x y xs ∙ ap (λ b. cond (eqb x y) false b) (l.has-is x) ∙ sym (h x);
+  pub lists_without : (y : ℕ) (now : ℕ → Bool) → ((x : ℕ) → now x ≡ cond (eqb x y) false (test x)) → Lists now n (without y xs)
+  lists_without y now h = record {
+    has_is = λ x. has-without x y xs ∙ ap (λ b. cond (eqb x y) false b) (l.has_is x) ∙ sym (h x);
     distinct = distinct_without y xs l.distinct;
     below = λ x e. ⊎_elim
         (λ (s : eqb x y ≡ true). absurd (false≢true (sym (has-without x y xs ∙ cond-true (eqb x y) false (has x xs) s) ∙ e)))
@@ -120,5 +120,5 @@ module _ (test : ℕ → Bool) (n : ℕ) (xs : List ℕ) (l : Lists test n xs) w
         (cases_Bool (eqb x y));
   }
 
-pub lists-none : (n : ℕ) → Lists (λ x. false) n []
-lists-none n = record { has-is = λ x. refl; distinct = tt; below = λ x e. absurd (false≢true e) }
+pub lists_none : (n : ℕ) → Lists (λ x. false) n []
+lists_none n = record { has_is = λ x. refl; distinct = tt; below = λ x e. absurd (false≢true e) }

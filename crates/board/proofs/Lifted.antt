@@ -6,7 +6,7 @@ use Rattle.timetable.specs.declared.query.Leg.{Leg}
 use Rattle.timetable.specs.declared.refusal.Refusal.{Refusal}
 use Rattle.timetable.specs.Timetables.{Timetable}
 use Rattle.timetable.specs.Hiding.{hide}
-use Rattle.timetable.proofs.HidingLemmas.{places-hidden}
+use Rattle.timetable.proofs.HidingLemmas.{places_hidden}
 use Rattle.journey.proofs.Follows.{journey_laws}
 use Rattle.thinning.specs.Thinning.{Picks, marked}
 use Rattle.thinning.proofs.Replaced.{keeps}
@@ -25,14 +25,14 @@ module _ (t : Timetable) (f : ℕ → Sailing → Bool) (picks : Picks f t) (q :
     journey = journey_laws.below f t q (take x.legs new) x.arrival best.journey;
     earliest = (keeps t f picks).earliest q x.arrival best.earliest;
     apart = best.apart;
-    inside = subst (λ (n : ℕ). x.legs ≤ n) (places-hidden f t) best.inside;
+    inside = subst (λ (n : ℕ). x.legs ≤ n) (places_hidden f t) best.inside;
     bound = best.bound;
     rest = best.rest;
   }
 
   module _ (given left : Lent) where
     cause_is : cause_in t q given ≡ cause_in (hide f t) q given
-    cause_is = ap (λ (n : ℕ). cause_of q (length t.changes) n (length given.labels) (length given.legs) (length given.keys)) (sym (places-hidden f t))
+    cause_is = ap (λ (n : ℕ). cause_of q (length t.changes) n (length given.labels) (length given.legs) (length given.keys)) (sym (places_hidden f t))
 
     lifted : (r : Result (Option Found) Refusal) → Routed (hide f t) q given left r → Routed t q given left r
     lifted (Err e) told = (cause_is ∙ told.0, told.1)

@@ -8,13 +8,13 @@ abbrev pub state : Timetable → List ℕ → List ℕ → List Bool → State
 state t runs quays marks = record { opened = t; runs = runs; quays = quays; marks = marks }
 
 -- states are equal where their parts are
-pub same-state : {t t' : Timetable} {runs runs' quays quays' : List ℕ} {marks marks' : List Bool} →
+pub same_state : {t t' : Timetable} {runs runs' quays quays' : List ℕ} {marks marks' : List Bool} →
     t ≡ t' → runs ≡ runs' → quays ≡ quays' → marks ≡ marks' → state t runs quays marks ≡ state t' runs' quays' marks'
-same-state p q r s = λ i. state (p i) (q i) (r i) (s i)
+same_state p q r s = λ i. state (p i) (q i) (r i) (s i)
 
-same-twice : (b : Bool) (xs : List ℕ) → xs ≡ cond b xs xs
-same-twice true xs = refl
-same-twice false xs = refl
+same_twice : (b : Bool) (xs : List ℕ) → xs ≡ cond b xs xs
+same_twice true xs = refl
+same_twice false xs = refl
 
 module _ (s : State) where
   split : (b : Bool) (runs quays : List ℕ) → state s.opened (cond b runs s.runs) (cond b quays s.quays) (cond b no_marks s.marks) ≡ cond b (state s.opened runs quays no_marks) s
@@ -26,12 +26,12 @@ module _ (s : State) where
     marks_are : new.marks ≡ cond (is_ok a) no_marks s.marks
     marks_are = marks ∙ ap (λ (b : Bool). cond b no_marks s.marks) (ok_is ∙ ap is_ok answer)
 
-    pub runs-noted : (runs : List ℕ) → new.runs ≡ cond (is_ok r) runs s.runs → new.quays ≡ s.quays → new ≡ noted s a runs s.quays
-    runs-noted runs e same =
-        same-state opened (e ∙ ap (λ (x : Notice). cond (is_ok x) runs s.runs) answer) (same ∙ same-twice (is_ok a) s.quays) marks_are
+    pub runs_noted : (runs : List ℕ) → new.runs ≡ cond (is_ok r) runs s.runs → new.quays ≡ s.quays → new ≡ noted s a runs s.quays
+    runs_noted runs e same =
+        same_state opened (e ∙ ap (λ (x : Notice). cond (is_ok x) runs s.runs) answer) (same ∙ same_twice (is_ok a) s.quays) marks_are
         ∙ split (is_ok a) runs s.quays
 
-    pub quays-noted : (quays : List ℕ) → new.quays ≡ cond (is_ok r) quays s.quays → new.runs ≡ s.runs → new ≡ noted s a s.runs quays
-    quays-noted quays e same =
-        same-state opened (same ∙ same-twice (is_ok a) s.runs) (e ∙ ap (λ (x : Notice). cond (is_ok x) quays s.quays) answer) marks_are
+    pub quays_noted : (quays : List ℕ) → new.quays ≡ cond (is_ok r) quays s.quays → new.runs ≡ s.runs → new ≡ noted s a s.runs quays
+    quays_noted quays e same =
+        same_state opened (same ∙ same_twice (is_ok a) s.runs) (e ∙ ap (λ (x : Notice). cond (is_ok x) quays s.quays) answer) marks_are
         ∙ split (is_ok a) s.runs quays

@@ -6,7 +6,7 @@ use Rattle.timetable.specs.declared.refusal.Refusal.{Refusal}
 use Rattle.timetable.specs.declared.refusal.Refusal.TheVariants.{RunWithheld, RunNotWithheld, RunsFull, QuayShut, QuayNotShut, QuaysFull, NoQuay}
 use Rattle.timetable.specs.Timetables.{Timetable}
 use Rattle.timetable.specs.Hiding.{hide}
-use Rattle.timetable.proofs.HidingLemmas.{hide-same}
+use Rattle.timetable.proofs.HidingLemmas.{hide_same}
 use Rattle.tables.specs.Lists.{has, without}
 use Rattle.thinning.specs.Margins.{passes}
 use Rattle.thinning.specs.Dominance.{dominated, mark_of, dominated_in}
@@ -23,7 +23,7 @@ use Rattle.board.specs.Force.{for_run, for_quay, forbids, withheld, is_shut, all
 use Rattle.board.specs.Answers.{SameRows, Right}
 use Rattle.board.specs.States.{State, no_marks, opening, standing, on_withhold, on_release, on_shut, on_open, noted, after_withhold, after_release, after_shut, after_open, AfterThin}
 use Rattle.board.specs.Kept.{Lists, Kept, Carries, CarriesOn}
-use Rattle.board.proofs.Holds.{and_true, and_false, lists-many, lists-same, lists_push, lists-without, lists-none}
+use Rattle.board.proofs.Holds.{and_true, and_false, lists_many, lists_same, lists_push, lists_without, lists_none}
 
 unmarked : (n p : ℕ) → get_or (replicate n false) p false ≡ false
 unmarked zero p = refl
@@ -37,17 +37,17 @@ none_picked t p x e m = absurd (false≢true (sym (unmarked 3072 p) ∙ m))
 -- a board that holds what the history says blanks what is out of force
 stands : (t : Timetable) (h : History) (s : State) → s.opened ≡ t → Lists (withheld h) all_runs s.runs → Lists (is_shut h) (length t.changes) s.quays → standing s ≡ book_in_force t h
 stands t h s o r k =
-    hide-same (λ p x. of_withheld s.runs p x || touches_shut s.quays p x) (out_of_force h)
-    (λ p x. ap₂ ◌||◌ (r.has-is x.run) (ap₂ ◌||◌ (k.has-is x.from) (k.has-is x.to))) s.opened
+    hide_same (λ p x. of_withheld s.runs p x || touches_shut s.quays p x) (out_of_force h)
+    (λ p x. ap₂ ◌||◌ (r.has_is x.run) (ap₂ ◌||◌ (k.has_is x.from) (k.has_is x.to))) s.opened
     ∙ ap (hide (out_of_force h)) o
 
 pub kept_new : (t : Timetable) (s : State) → s ≡ opening t → Kept t new s
 kept_new t s e = subst (λ (x : State). Kept t new x) (sym e) (record {
   opened = refl;
   right = tt;
-  in_force = stands t new (opening t) refl (lists-none all_runs) (lists-none (length t.changes));
-  runs = lists-none all_runs;
-  quays = lists-none (length t.changes);
+  in_force = stands t new (opening t) refl (lists_none all_runs) (lists_none (length t.changes));
+  runs = lists_none all_runs;
+  quays = lists_none (length t.changes);
   marks = none_picked (book_in_force t new);
 })
 
@@ -57,15 +57,15 @@ module _ (t : Timetable) (h : History) (s : State) (k : Kept t h s) where
   refused c e lent right =
       let ev = event c (Notice (Err e)) lent lent in
       let run_is : (x : ℕ) → withheld (h then ev) x ≡ withheld h x = λ x. ap (λ b. cond b (forbids c) (withheld h x)) (and_false (for_run c x)) in
-      let quay-is : (x : ℕ) → is_shut (h then ev) x ≡ is_shut h x = λ x. ap (λ b. cond b (forbids c) (is_shut h x)) (and_false (for_quay c x)) in
+      let quay_is : (x : ℕ) → is_shut (h then ev) x ≡ is_shut h x = λ x. ap (λ b. cond b (forbids c) (is_shut h x)) (and_false (for_quay c x)) in
       let same : book_in_force t (h then ev) ≡ book_in_force t h =
-      hide-same (out_of_force (h then ev)) (out_of_force h) (λ p x. ap₂ ◌||◌ (run_is x.run) (ap₂ ◌||◌ (quay-is x.from) (quay-is x.to))) t in
+      hide_same (out_of_force (h then ev)) (out_of_force h) (λ p x. ap₂ ◌||◌ (run_is x.run) (ap₂ ◌||◌ (quay_is x.from) (quay_is x.to))) t in
       record {
         opened = k.opened;
         right = (k.right, right);
         in_force = k.in_force ∙ sym same;
-        runs = lists-same (withheld h) all_runs s.runs k.runs (withheld (h then ev)) run_is;
-        quays = lists-same (is_shut h) (length t.changes) s.quays k.quays (is_shut (h then ev)) quay-is;
+        runs = lists_same (withheld h) all_runs s.runs k.runs (withheld (h then ev)) run_is;
+        quays = lists_same (is_shut h) (length t.changes) s.quays k.quays (is_shut (h then ev)) quay_is;
         marks = subst (λ (u : Timetable). Picks (marked s.marks) u) (sym same) k.marks;
       }
 
@@ -84,18 +84,18 @@ module _ (t : Timetable) (h : History) (s : State) (k : Kept t h s) where
         marks = none_picked (book_in_force t (h then ev));
       }
 
-  runs-many : length s.runs ≡ runs_withheld h
-  runs-many = lists-many (withheld h) all_runs s.runs k.runs
+  runs_many : length s.runs ≡ runs_withheld h
+  runs_many = lists_many (withheld h) all_runs s.runs k.runs
 
-  quays-many : length s.quays ≡ quays_shut t h
-  quays-many = lists-many (is_shut h) (length t.changes) s.quays k.quays
+  quays_many : length s.quays ≡ quays_shut t h
+  quays_many = lists_many (is_shut h) (length t.changes) s.quays k.quays
 
   quays_are : length s.opened.changes ≡ length t.changes
   quays_are = ap (λ (u : Timetable). length u.changes) k.opened
 
   withheld-kept : (run : ℕ) → run < all_runs → (lent : Lent) → Kept t (h then event (Withhold run) (Notice (on_withhold s run)) lent lent) (after_withhold s run)
   withheld-kept run lt lent =
-      go (has run s.runs) (ltb (length s.runs) most_runs) refl (ap Notice (ap₂ withhold_answer (k.runs.has-is run) runs-many), refl)
+      go (has run s.runs) (ltb (length s.runs) most_runs) refl (ap Notice (ap₂ withhold_answer (k.runs.has_is run) runs_many), refl)
     where
       go : (b f : Bool) → has run s.runs ≡ b →
           let a : Reply = cond b (Err RunWithheld) (cond f (Ok tt) (Err RunsFull)) in
@@ -105,22 +105,22 @@ module _ (t : Timetable) (h : History) (s : State) (k : Kept t h s) where
       go false true e right = accepts (Withhold run) lent (s.runs ++ (run ∷ [])) s.quays right
           (lists_push (withheld h) all_runs s.runs k.runs run lt e _ (λ x. ap (λ b. cond b true (withheld h x)) (and_true (eqb x run)))) k.quays
 
-  released-kept : (run : ℕ) (lent : Lent) → Kept t (h then event (Release run) (Notice (on_release s run)) lent lent) (after_release s run)
-  released-kept run lent =
-      go (has run s.runs) (ap (λ (b : Bool). Notice (release_answer b)) (k.runs.has-is run), refl)
+  released_kept : (run : ℕ) (lent : Lent) → Kept t (h then event (Release run) (Notice (on_release s run)) lent lent) (after_release s run)
+  released_kept run lent =
+      go (has run s.runs) (ap (λ (b : Bool). Notice (release_answer b)) (k.runs.has_is run), refl)
     where
       go : (b : Bool) →
           let a : Reply = cond b (Ok tt) (Err RunNotWithheld) in
           Right t h (event (Release run) (Notice a) lent lent) → Kept t (h then event (Release run) (Notice a) lent lent) (noted s a (without run s.runs) s.quays)
       go true right = accepts (Release run) lent (without run s.runs) s.quays right
-          (lists-without (withheld h) all_runs s.runs k.runs run _ (λ x. ap (λ b. cond b false (withheld h x)) (and_true (eqb x run)))) k.quays
+          (lists_without (withheld h) all_runs s.runs k.runs run _ (λ x. ap (λ b. cond b false (withheld h x)) (and_true (eqb x run)))) k.quays
       go false right = refused (Release run) RunNotWithheld lent right
 
-  shut-kept : (quay : ℕ) (lent : Lent) → Kept t (h then event (Shut quay) (Notice (on_shut s quay)) lent lent) (after_shut s quay)
-  shut-kept quay lent =
+  shut_kept : (quay : ℕ) (lent : Lent) → Kept t (h then event (Shut quay) (Notice (on_shut s quay)) lent lent) (after_shut s quay)
+  shut_kept quay lent =
       go (ltb quay (length s.opened.changes)) (has quay s.quays) (ltb (length s.quays) most_quays) refl refl (
         ap (λ (n : ℕ). Notice (shut_answer (ltb quay n) (has quay s.quays) (length s.quays))) quays_are
-            ∙ ap₂ (λ (b : Bool) (n : ℕ). Notice (shut_answer (ltb quay (length t.changes)) b n)) (k.quays.has-is quay) quays-many,
+            ∙ ap₂ (λ (b : Bool) (n : ℕ). Notice (shut_answer (ltb quay (length t.changes)) b n)) (k.quays.has_is quay) quays_many,
         refl,
       )
     where
@@ -134,11 +134,11 @@ module _ (t : Timetable) (h : History) (s : State) (k : Kept t h s) where
           (lists_push (is_shut h) (length t.changes) s.quays k.quays quay
           (subst (λ (n : ℕ). quay < n) quays_are (ltb-true _ _ i)) e _ (λ x. ap (λ b. cond b true (is_shut h x)) (and_true (eqb x quay))))
 
-  opened-kept : (quay : ℕ) (lent : Lent) → Kept t (h then event (Open quay) (Notice (on_open s quay)) lent lent) (after_open s quay)
-  opened-kept quay lent =
+  opened_kept : (quay : ℕ) (lent : Lent) → Kept t (h then event (Open quay) (Notice (on_open s quay)) lent lent) (after_open s quay)
+  opened_kept quay lent =
       go (ltb quay (length s.opened.changes)) (has quay s.quays) (
         ap (λ (n : ℕ). Notice (open_answer (ltb quay n) (has quay s.quays))) quays_are
-            ∙ ap (λ (b : Bool). Notice (open_answer (ltb quay (length t.changes)) b)) (k.quays.has-is quay),
+            ∙ ap (λ (b : Bool). Notice (open_answer (ltb quay (length t.changes)) b)) (k.quays.has_is quay),
         refl,
       )
     where
@@ -148,7 +148,7 @@ module _ (t : Timetable) (h : History) (s : State) (k : Kept t h s) where
       go false b right = refused (Open quay) NoQuay lent right
       go true false right = refused (Open quay) QuayNotShut lent right
       go true true right = accepts (Open quay) lent s.runs (without quay s.quays) right k.runs
-          (lists-without (is_shut h) (length t.changes) s.quays k.quays quay _ (λ x. ap (λ b. cond b false (is_shut h x)) (and_true (eqb x quay))))
+          (lists_without (is_shut h) (length t.changes) s.quays k.quays quay _ (λ x. ap (λ b. cond b false (is_shut h x)) (and_true (eqb x quay))))
 
   thinned_kept : (after : State) (lent : Lent) → AfterThin s after → Kept t (h then event Thin (Count (dominated_in (standing s))) lent lent) after
   thinned_kept after lent th =
@@ -185,13 +185,13 @@ module _ (s after : State) (a : Reply) where
   withhold_carries run lt e f = carried (Withhold run) (on_withhold s run) (after_withhold s run) e f (λ lent t h k. withheld-kept t h s k run lt lent)
 
   pub release_carries : (run : ℕ) → a ≡ on_release s run → after ≡ after_release s run → CarriesOn s (Release run) (Notice a) after
-  release_carries run e f = carried (Release run) (on_release s run) (after_release s run) e f (λ lent t h k. released-kept t h s k run lent)
+  release_carries run e f = carried (Release run) (on_release s run) (after_release s run) e f (λ lent t h k. released_kept t h s k run lent)
 
   pub shut_carries : (quay : ℕ) → a ≡ on_shut s quay → after ≡ after_shut s quay → CarriesOn s (Shut quay) (Notice a) after
-  shut_carries quay e f = carried (Shut quay) (on_shut s quay) (after_shut s quay) e f (λ lent t h k. shut-kept t h s k quay lent)
+  shut_carries quay e f = carried (Shut quay) (on_shut s quay) (after_shut s quay) e f (λ lent t h k. shut_kept t h s k quay lent)
 
   pub open_carries : (quay : ℕ) → a ≡ on_open s quay → after ≡ after_open s quay → CarriesOn s (Open quay) (Notice a) after
-  open_carries quay e f = carried (Open quay) (on_open s quay) (after_open s quay) e f (λ lent t h k. opened-kept t h s k quay lent)
+  open_carries quay e f = carried (Open quay) (on_open s quay) (after_open s quay) e f (λ lent t h k. opened_kept t h s k quay lent)
 
 pub thin_carries : (s after : State) (n : ℕ) → n ≡ dominated_in (standing s) → AfterThin s after → CarriesOn s Thin (Count n) after
 thin_carries s after n e th lent t h k =

@@ -18,7 +18,7 @@ Distinct (x ∷ xs) = (has x xs ≡ false) × Distinct xs
 
 -- the list holds the numbers that pass the test, each once and below n, and no others
 pub record Lists (test : ℕ → Bool) (n : ℕ) (xs : List ℕ) : Type 0 where
-  pub has-is : (x : ℕ) → has x xs ≡ test x
+  pub has_is : (x : ℕ) → has x xs ≡ test x
   pub distinct : Distinct xs
   pub below : (x : ℕ) → has x xs ≡ true → x < n
 

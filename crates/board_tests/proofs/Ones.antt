@@ -4,7 +4,7 @@ use Rattle.timetable.specs.declared.query.Query.{Query}
 use Rattle.timetable.specs.declared.refusal.Refusal.{Refusal}
 use Rattle.timetable.specs.Timetables.{Timetable}
 use Rattle.timetable.specs.Hiding.{hide}
-use Rattle.timetable.proofs.HidingLemmas.{hide-same}
+use Rattle.timetable.proofs.HidingLemmas.{hide_same}
 use Rattle.tables.specs.Lists.{many}
 use Rattle.layers.specs.Notices.{Notice as Reply, withhold_answer}
 use Rattle.routing.specs.declared.found.Found.{Found}
@@ -49,7 +49,7 @@ module _ (t : Timetable) (run : ℕ) (q : Query) (given left : Lent) (a : Reply)
       let told = k₃.right.1 in
       let ok = run_is (taken (notice_same a _ k₁.right.1.0)) in
       let same : book_in_force t h₂ ≡ hide (λ p x. eqb x.run run) t =
-      hide-same (out_of_force h₂) (λ p x. eqb x.run run)
+      hide_same (out_of_force h₂) (λ p x. eqb x.run run)
       (λ p x. ap (λ b. b || false) (ok x.run) ∙ (elim (eqb x.run run) as (λ b. (b || false) ≡ b) [ true ↦ refl | false ↦ refl ])) t in
       subst (λ (u : Timetable). Routed u q given left r) same
       (subst (λ (x : Result (Option Found) Refusal). Routed (book_in_force t h₂) q given left x) (sym (told_same r told.0 told.1)) told.2)

@@ -14,15 +14,15 @@ all_alike zero x p = refl
 all_alike (suc n) x zero = refl
 all_alike (suc n) x (suc p) = all_alike n x p
 
-pub forty-lawful : Lawful forty
-forty-lawful = record {
-  some-quay = omega arith;
-  few-quays = omega arith;
-  few-places = omega arith;
+pub forty_lawful : Lawful forty
+forty_lawful = record {
+  some_quay = omega arith;
+  few_quays = omega arith;
+  few_places = omega arith;
   as_many_spans = refl;
-  change-day = λ q. subst (λ (m : ℕ). m < day) (sym (all_alike 40 0 q)) (omega arith);
+  change_day = λ q. subst (λ (m : ℕ). m < day) (sym (all_alike 40 0 q)) (omega arith);
   within = λ p s e. let z : ◌≡◌ {A = ℕ} 0 1 = cc in absurd (omega arith);
-  span-order = λ q. subst (λ (x : Span). x.start ≤ x.end) (sym (all_alike 40 nowhere q)) (omega arith);
-  span-end = λ q. subst (λ (x : Span). x.end ≤ 0) (sym (all_alike 40 nowhere q)) (omega arith);
+  span_order = λ q. subst (λ (x : Span). x.start ≤ x.end) (sym (all_alike 40 nowhere q)) (omega arith);
+  span_end = λ q. subst (λ (x : Span). x.end ≤ 0) (sym (all_alike 40 nowhere q)) (omega arith);
   spanned = λ p s e. let z : ◌≡◌ {A = ℕ} 0 1 = cc in absurd (omega arith);
 }

@@ -1,5 +1,5 @@
 //! A book of more quays than can be shut at one time.
-ghost use Rattle.board_tests.specs.Forty.{forty, forty-lawful};
+ghost use Rattle.board_tests.specs.Forty.{forty, forty_lawful};
 
 use timetable::book::Book;
 use timetable::refusal::Refusal;
@@ -15,7 +15,7 @@ const QUAYS: u16 = 40;
 impl Book for FortyQuays {
     ghost meaning = { λ _. forty };
 
-    ghost lawful = { λ _. forty-lawful };
+    ghost lawful = { λ _. forty_lawful };
 
     fn quays(&self) -> u16 {
         QUAYS

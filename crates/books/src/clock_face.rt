@@ -2,7 +2,7 @@ ghost use Rattle.std.specs.Prelude.{◌≡◌, ◌≤◌, true, length, is_ok};
 ghost use Rattle.image.specs.Checks.{clock_check};
 ghost use Rattle.image.specs.Records.{quays_in, entries_in, entry_at};
 
-// A book over the bytes of a clock_face image. The bytes have passed the check, so no question about them can go wrong.
+// A book over the bytes of a clock-face image. The bytes have passed the check, so no question about them can go wrong.
 #[derive(Clone, Copy)]
 pub struct ClockFace<'a> {
     pub(crate) bytes: &'a [u8],

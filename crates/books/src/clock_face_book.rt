@@ -49,7 +49,7 @@ fn counted(s: Series, quay: u32) -> u16
 }
 
 impl<'a> ClockFace<'a> {
-    // Opens an image. Bytes that are no clock_face image open as one nameless quay with no places.
+    // Opens an image. Bytes that are no clock-face image open as one nameless quay with no places.
     pub fn open(bytes: &'a [u8]) -> ClockFace<'a>
         ensures { OpensClock bytes.now (clock_face result.bytes.now) (names_in result.bytes.now) }
     {

@@ -8,7 +8,7 @@ ghost use Rattle.image.specs.Records.{number_at, quays_in, entries_in, entry_at,
 ghost use Rattle.image.specs.Meanings.{below, printed};
 ghost use Rattle.image.specs.Names.{names_in, Trims};
 ghost use Rattle.image.specs.Openings.{OpensPrinted, blank_image};
-ghost use Rattle.image.proofs.Prints.{printed-lawful};
+ghost use Rattle.image.proofs.Prints.{printed_lawful};
 
 use crate::printed::Printed;
 use crate::reading::*;
@@ -82,7 +82,7 @@ impl<'a> Printed<'a> {
 impl<'a> Book for Printed<'a> {
     ghost meaning = { λ b. printed b.bytes.now };
 
-    ghost lawful = { λ b. printed-lawful b.bytes.now b.sound };
+    ghost lawful = { λ b. printed_lawful b.bytes.now b.sound };
 
     fn quays(&self) -> u16 {
         number_at(self.bytes, 4)

@@ -3,7 +3,7 @@ ghost use Rattle.std.specs.Prelude.{◌≡◌, ◌+◌, ◌<◌, ◌≤◌, [], 
 ghost use Rattle.std.specs.Result.{result_map_both};
 ghost use Rattle.timetable.specs.Answers.{asked};
 ghost use Rattle.timetable.specs.declared.refusal.Refusal.TheVariants.{NoQuay};
-ghost use Rattle.image.specs.Records.{number_at, quays_in, quay-at, sailing_at, series_at};
+ghost use Rattle.image.specs.Records.{number_at, quays_in, quay_start, sailing_at, series_at};
 ghost use Rattle.image.specs.Meanings.{changes_of};
 ghost use Rattle.image.specs.Names.{letters_left, trimmed, names_in};
 
@@ -71,7 +71,7 @@ fn name_at<'a>(bytes: &'a [u8], at: usize) -> &'a [u8]
 
 // The name of a quay: a part of the image.
 pub(crate) fn name_in<'a>(bytes: &'a [u8], quay: u16) -> Result<&'a [u8], Refusal>
-    requires { quay-at (quays_in bytes.now) ≤ length bytes.now }
+    requires { quay_start (quays_in bytes.now) ≤ length bytes.now }
     ensures { result_map_both (λ x. x.now) (λ e. e) result ≡ asked (names_in bytes.now) quay [] NoQuay }
 {
     if quay >= number_at(bytes, 4) {
@@ -81,7 +81,7 @@ pub(crate) fn name_in<'a>(bytes: &'a [u8], quay: u16) -> Result<&'a [u8], Refusa
 }
 
 pub(crate) fn change_in(bytes: &[u8], quay: u16) -> Result<u16, Refusal>
-    requires { quay-at (quays_in bytes.now) ≤ length bytes.now }
+    requires { quay_start (quays_in bytes.now) ≤ length bytes.now }
     ensures { result ≡ asked (changes_of bytes.now) quay 0 NoQuay }
 {
     if quay >= number_at(bytes, 4) {

@@ -7,8 +7,8 @@ use Rattle.booktext.specs.Quays.{filled}
 abbrev pub front : List ℕ → ℕ → List ℕ
 front name i = take i name ++ replicate (10 - i) 32
 
-pub front-more : (name : List ℕ) (i : ℕ) → i < length name → length name ≤ 10 → set (front name i) i (get_or name i 0) ≡ front name (i + 1)
-front-more name i l short =
+pub front_more : (name : List ℕ) (i : ℕ) → i < length name → length name ≤ 10 → set (front name i) i (get_or name i 0) ≡ front name (i + 1)
+front_more name i l short =
     let m = 10 - (i + 1) in
     let x = get_or name i 0 in
     let one : 10 - i ≡ suc m = omega arith in
@@ -17,5 +17,5 @@ front-more name i l short =
     sym (append_assoc (take i name) (x ∷ []) (replicate m 32)) ∙ ap (λ t. t ++ replicate m 32) (sym (take_more name i 0 l)) in
     ap (λ k. set (take i name ++ replicate k 32) i x) one ∙ (here ∙ there)
 
-pub front-all : (name : List ℕ) (i : ℕ) → i ≡ length name → front name i ≡ filled name
-front-all name i e = ap (front name) e ∙ ap (λ t. t ++ replicate (10 - length name) 32) (take_all (length name) name (omega arith))
+pub front_all : (name : List ℕ) (i : ℕ) → i ≡ length name → front name i ≡ filled name
+front_all name i e = ap (front name) e ∙ ap (λ t. t ++ replicate (10 - length name) 32) (take_all (length name) name (omega arith))

@@ -13,8 +13,8 @@ use Rattle.booktext.specs.declared.entry.LineFault.TheVariants.{NoWord}
 use Rattle.booktext.specs.Quays.{quay_of, QuayLine}
 use Rattle.booktext.specs.Sailings.{sailing_of, SailingLine}
 use Rattle.booktext.specs.Lines.{begins, worded, line_of, Silent, Says}
-use Rattle.booktext.proofs.Quaylines.{quay-stands, quay-here}
-use Rattle.booktext.proofs.Sailinglines.{sailing-stands, sailing-here}
+use Rattle.booktext.proofs.Quaylines.{quay_stands, quay_here}
+use Rattle.booktext.proofs.Sailinglines.{sailing_stands, sailing_here}
 
 -- the first byte of a line that begins with a word
 first_byte : (line word : List ℕ) (n : ℕ) → 0 < n → take n line ≡ word → get_or line 0 0 ≡ get_or word 0 0
@@ -24,12 +24,12 @@ first_byte line word n h e = sym (get_or-take n line 0 0 h) ∙ ap (λ l. get_or
 abbrev hushed : List ℕ → Bool
 hushed line = eqb (length line) 0 || eqb (get_or line 0 0) 35
 
-hushed-means : (line : List ℕ) → hushed line ≡ true → Silent line
-hushed-means line h =
+hushed_means : (line : List ℕ) → hushed line ≡ true → Silent line
+hushed_means line h =
     ⊎_elim (λ e. inl (nil_from_length line (eqb-true (length line) 0 e))) (λ e. inr (eqb-true (get_or line 0 0) 35 e)) (or_cases (eqb (length line) 0) (eqb (get_or line 0 0) 35) h)
 
-silent-hushed : (line : List ℕ) → Silent line → hushed line ≡ true
-silent-hushed line h =
+silent_hushed : (line : List ℕ) → Silent line → hushed line ≡ true
+silent_hushed line h =
     ⊎_elim (λ e. or_left (eqb (length line) 0) (eqb (get_or line 0 0) 35) (eq-eqb (length line) 0 (ap length e)))
     (λ e. or_right (eqb (length line) 0) (eqb (get_or line 0 0) 35) (eq-eqb (get_or line 0 0) 35 e)) h
 
@@ -38,8 +38,8 @@ spoken : (line : List ℕ) (b : ℕ) → get_or line 0 0 ≡ b → 35 < b → hu
 spoken [] b e l = absurd (omega arith)
 spoken (x ∷ xs) b e l = or_from (eqb (length (x ∷ xs)) 0) (eqb x 35) (ne_eqb (length (x ∷ xs)) 0 (λ z. omega arith)) (ne_eqb x 35 (λ z. omega arith))
 
-not-begins : (word line : List ℕ) → (take (length word) line ≡ word → ⊥) → begins word line ≡ false
-not-begins word line f = ⊎_elim (λ t. absurd (f ((bytes_eq-Decides (take (length word) line) word).0 t))) (λ t. t) (cases_Bool (begins word line))
+not_begins : (word line : List ℕ) → (take (length word) line ≡ word → ⊥) → begins word line ≡ false
+not_begins word line f = ⊎_elim (λ t. absurd (f ((bytes_eq-Decides (take (length word) line) word).0 t))) (λ t. t) (cases_Bool (begins word line))
 
 abbrev quay-answer : List ℕ → Result Entry LineFault
 quay-answer line = result_map_both OfQuay (λ e. e) (quay_of line)
@@ -47,20 +47,20 @@ quay-answer line = result_map_both OfQuay (λ e. e) (quay_of line)
 abbrev sailing-answer : List ℕ → Result Entry LineFault
 sailing-answer line = result_map_both OfSailing (λ e. e) (sailing_of line)
 
-abbrev no-quay : List ℕ → Result Entry LineFault
-no-quay line = cond (begins (codes "sailing") line) (sailing-answer line) (Err NoWord)
+abbrev no_quay : List ℕ → Result Entry LineFault
+no_quay line = cond (begins (codes "sailing") line) (sailing-answer line) (Err NoWord)
 
 apart : (line : List ℕ) → take 4 line ≡ codes "quay" → take 7 line ≡ codes "sailing" → ⊥
 apart line v w = omega (arith, first_byte line (codes "quay") 4 (omega arith) v, first_byte line (codes "sailing") 7 (omega arith) w)
 
-quay-read : (line : List ℕ) → hushed line ≡ false → take 4 line ≡ codes "quay" → line_of line ≡ quay-answer line
-quay-read line h w =
-    cond-false (hushed line) (Ok Nothing) (worded line) h ∙ cond-true (begins (codes "quay") line) (quay-answer line) (no-quay line) ((bytes_eq-Decides (take 4 line) (codes "quay")).1 w)
+quay_read : (line : List ℕ) → hushed line ≡ false → take 4 line ≡ codes "quay" → line_of line ≡ quay-answer line
+quay_read line h w =
+    cond-false (hushed line) (Ok Nothing) (worded line) h ∙ cond-true (begins (codes "quay") line) (quay-answer line) (no_quay line) ((bytes_eq-Decides (take 4 line) (codes "quay")).1 w)
 
-sailing-read : (line : List ℕ) → hushed line ≡ false → take 7 line ≡ codes "sailing" → line_of line ≡ sailing-answer line
-sailing-read line h w =
+sailing_read : (line : List ℕ) → hushed line ≡ false → take 7 line ≡ codes "sailing" → line_of line ≡ sailing-answer line
+sailing_read line h w =
     cond-false (hushed line) (Ok Nothing) (worded line) h
-    ∙ (cond-false (begins (codes "quay") line) (quay-answer line) (no-quay line) (not-begins (codes "quay") line (λ v. apart line v w))
+    ∙ (cond-false (begins (codes "quay") line) (quay-answer line) (no_quay line) (not_begins (codes "quay") line (λ v. apart line v w))
     ∙ cond-true (begins (codes "sailing") line) (sailing-answer line) (Err NoWord) ((bytes_eq-Decides (take 7 line) (codes "sailing")).1 w))
 
 -- the four ways that a line is read
@@ -73,12 +73,12 @@ way : (line : List ℕ) → Way line
 way line = ⊎_elim (λ t. inl (t, cond-true (hushed line) (Ok Nothing) (worded line) t)) (λ t. inr (speaks t)) (cases_Bool (hushed line))
   where
     speaks : hushed line ≡ false → ((take 4 line ≡ codes "quay") × (line_of line ≡ quay-answer line)) ⊎ (((take 7 line ≡ codes "sailing") × (line_of line ≡ sailing-answer line)) ⊎ (line_of line ≡ Err NoWord))
-    speaks t = ⊎_elim (λ q. let w = (bytes_eq-Decides (take 4 line) (codes "quay")).0 q in inl (w, quay-read line t w)) (λ q. inr (sails t q)) (cases_Bool (begins (codes "quay") line))
+    speaks t = ⊎_elim (λ q. let w = (bytes_eq-Decides (take 4 line) (codes "quay")).0 q in inl (w, quay_read line t w)) (λ q. inr (sails t q)) (cases_Bool (begins (codes "quay") line))
       where
         sails : hushed line ≡ false → begins (codes "quay") line ≡ false → ((take 7 line ≡ codes "sailing") × (line_of line ≡ sailing-answer line)) ⊎ (line_of line ≡ Err NoWord)
         sails t q =
-            ⊎_elim (λ s. let w = (bytes_eq-Decides (take 7 line) (codes "sailing")).0 s in inl (w, sailing-read line t w))
-            (λ s. inr (cond-false (hushed line) (Ok Nothing) (worded line) t ∙ (cond-false (begins (codes "quay") line) (quay-answer line) (no-quay line) q ∙ cond-false (begins (codes "sailing") line) (sailing-answer line) (Err NoWord) s)))
+            ⊎_elim (λ s. let w = (bytes_eq-Decides (take 7 line) (codes "sailing")).0 s in inl (w, sailing_read line t w))
+            (λ s. inr (cond-false (hushed line) (Ok Nothing) (worded line) t ∙ (cond-false (begins (codes "quay") line) (quay-answer line) (no_quay line) q ∙ cond-false (begins (codes "sailing") line) (sailing-answer line) (Err NoWord) s)))
             (cases_Bool (begins (codes "sailing") line))
 
 -- an answer about quays is about the quay that was read, and about nothing else
@@ -109,29 +109,29 @@ sailing_not_quay (Err e) q h = let z : ◌≡◌ {A = ℕ} 0 1 = cc in omega ari
 no_word : (x : Entry) → ◌≡◌ {A = Result Entry LineFault} (Err NoWord) (Ok x) → ⊥
 no_word x h = let z : ◌≡◌ {A = ℕ} 0 1 = cc in omega arith
 
-silent-told : (line : List ℕ) → line_of line ≡ Ok Nothing → Silent line
-silent-told line h = go (way line)
+silent_told : (line : List ℕ) → line_of line ≡ Ok Nothing → Silent line
+silent_told line h = go (way line)
   where
     go : Way line → Silent line
-    go (inl w) = hushed-means line w.0
+    go (inl w) = hushed_means line w.0
     go (inr (inl w)) = absurd (quay_not_nothing (quay_of line) (sym w.1 ∙ h))
     go (inr (inr (inl w))) = absurd (sailing_not_nothing (sailing_of line) (sym w.1 ∙ h))
     go (inr (inr (inr w))) = absurd (no_word Nothing (sym w ∙ h))
 
-quay-told : (line : List ℕ) (q : Quay) → line_of line ≡ Ok (OfQuay q) → QuayLine line q
-quay-told line q h = go (way line)
+quay_told : (line : List ℕ) (q : Quay) → line_of line ≡ Ok (OfQuay q) → QuayLine line q
+quay_told line q h = go (way line)
   where
     other : ◌≡◌ {A = Result Entry LineFault} (Ok Nothing) (Ok (OfQuay q)) → ⊥
     other e = let z : ◌≡◌ {A = ℕ} 0 1 = cc in omega arith
 
     go : Way line → QuayLine line q
     go (inl w) = absurd (other (sym w.1 ∙ h))
-    go (inr (inl w)) = quay-stands line q w.0 (quay_of_lem (quay_of line) q (sym w.1 ∙ h))
+    go (inr (inl w)) = quay_stands line q w.0 (quay_of_lem (quay_of line) q (sym w.1 ∙ h))
     go (inr (inr (inl w))) = absurd (sailing_not_quay (sailing_of line) q (sym w.1 ∙ h))
     go (inr (inr (inr w))) = absurd (no_word (OfQuay q) (sym w ∙ h))
 
-sailing-told : (line : List ℕ) (s : Sailing) → line_of line ≡ Ok (OfSailing s) → SailingLine line s
-sailing-told line s h = go (way line)
+sailing_told : (line : List ℕ) (s : Sailing) → line_of line ≡ Ok (OfSailing s) → SailingLine line s
+sailing_told line s h = go (way line)
   where
     other : ◌≡◌ {A = Result Entry LineFault} (Ok Nothing) (Ok (OfSailing s)) → ⊥
     other e = let z : ◌≡◌ {A = ℕ} 0 1 = cc in omega arith
@@ -139,20 +139,20 @@ sailing-told line s h = go (way line)
     go : Way line → SailingLine line s
     go (inl w) = absurd (other (sym w.1 ∙ h))
     go (inr (inl w)) = absurd (quay_not_sailing (quay_of line) s (sym w.1 ∙ h))
-    go (inr (inr (inl w))) = sailing-stands line s w.0 (sailing_of_lem (sailing_of line) s (sym w.1 ∙ h))
+    go (inr (inr (inl w))) = sailing_stands line s w.0 (sailing_of_lem (sailing_of line) s (sym w.1 ∙ h))
     go (inr (inr (inr w))) = absurd (no_word (OfSailing s) (sym w ∙ h))
 
 pub says : (line : List ℕ) → Says line (line_of line)
 says line = record {
-  silent = (silent-told line, λ h. cond-true (hushed line) (Ok Nothing) (worded line) (silent-hushed line h));
+  silent = (silent_told line, λ h. cond-true (hushed line) (Ok Nothing) (worded line) (silent_hushed line h));
   quay = λ q. (
-    quay-told line q,
+    quay_told line q,
     λ h.
-        quay-read line (spoken line 113 (first_byte line (codes "quay") 4 (omega arith) h.word) (omega arith)) h.word ∙ ap (result_map_both OfQuay (λ e. e)) (quay-here line q h),
+        quay_read line (spoken line 113 (first_byte line (codes "quay") 4 (omega arith) h.word) (omega arith)) h.word ∙ ap (result_map_both OfQuay (λ e. e)) (quay_here line q h),
   );
   sailing = λ s. (
-    sailing-told line s,
+    sailing_told line s,
     λ h.
-        sailing-read line (spoken line 115 (first_byte line (codes "sailing") 7 (omega arith) h.word) (omega arith)) h.word ∙ ap (result_map_both OfSailing (λ e. e)) (sailing-here line s h),
+        sailing_read line (spoken line 115 (first_byte line (codes "sailing") 7 (omega arith) h.word) (omega arith)) h.word ∙ ap (result_map_both OfSailing (λ e. e)) (sailing_here line s h),
   );
 }

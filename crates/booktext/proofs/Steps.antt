@@ -46,8 +46,8 @@ pub record Both (P : ℕ → Field → Type 0) (at : ℕ) (p : Pair) : Type 0 wh
   pub first : P at (record { value = p.first; next = mid })
   pub second : P mid (record { value = p.second; next = p.next })
 
-both-stand : (P : ℕ → Field → Type 0) (here : ℕ → Result Field LineFault) → ((at : ℕ) (f : Field) → here at ≡ Ok f → P at f) → (at : ℕ) (p : Pair) → and_then (here at) (λ f. and_then (here f.next) (λ g. Ok (pair_of f g))) ≡ Ok p → Both P at p
-both-stand P here stands at p h =
+both_stand : (P : ℕ → Field → Type 0) (here : ℕ → Result Field LineFault) → ((at : ℕ) (f : Field) → here at ≡ Ok f → P at f) → (at : ℕ) (p : Pair) → and_then (here at) (λ f. and_then (here f.next) (λ g. Ok (pair_of f g))) ≡ Ok p → Both P at p
+both_stand P here stands at p h =
     let a = came (here at) (λ f. and_then (here f.next) (λ g. Ok (pair_of f g))) p h in
     let b = came (here a.mid.next) (λ g. Ok (pair_of a.mid g)) p a.then in
     made a.mid b.mid (stands at a.mid a.first) (stands a.mid.next b.mid b.first) (same (pair_of a.mid b.mid) p b.then)
@@ -58,24 +58,24 @@ both-stand P here stands at p h =
     made : (f g : Field) → P at f → P f.next g → pair_of f g ≡ p → Both P at p
     made f g x y e = subst (λ q. Both P at q) e (record { mid = f.next; first = x; second = y })
 
-both-here : (P : ℕ → Field → Type 0) (here : ℕ → Result Field LineFault) → ((at : ℕ) (f : Field) → P at f → here at ≡ Ok f) → (at : ℕ) (p : Pair) → Both P at p → and_then (here at) (λ f. and_then (here f.next) (λ g. Ok (pair_of f g))) ≡ Ok p
-both-here P here stands at p h =
+both_here : (P : ℕ → Field → Type 0) (here : ℕ → Result Field LineFault) → ((at : ℕ) (f : Field) → P at f → here at ≡ Ok f) → (at : ℕ) (p : Pair) → Both P at p → and_then (here at) (λ f. and_then (here f.next) (λ g. Ok (pair_of f g))) ≡ Ok p
+both_here P here stands at p h =
     let f : Field = record { value = p.first; next = h.mid } in
     let g : Field = record { value = p.second; next = p.next } in
     goes (here at) (λ f. and_then (here f.next) (λ g. Ok (pair_of f g))) f p (stands at f h.first)
     (goes (here h.mid) (λ g. Ok (pair_of f g)) g p (stands h.mid g h.second) refl)
 
-pub numbers-stand : (line : List ℕ) (at : ℕ) (p : Pair) → two_numbers line at ≡ Ok p → Both (Numeral line) at p
-numbers-stand line at p h = both-stand (Numeral line) (number_here line) (number_stands line) at p h
+pub numbers_stand : (line : List ℕ) (at : ℕ) (p : Pair) → two_numbers line at ≡ Ok p → Both (Numeral line) at p
+numbers_stand line at p h = both_stand (Numeral line) (number_here line) (number_stands line) at p h
 
-pub numbers-here : (line : List ℕ) (at : ℕ) (p : Pair) → Both (Numeral line) at p → two_numbers line at ≡ Ok p
-numbers-here line at p h = both-here (Numeral line) (number_here line) (number_here_lem line) at p h
+pub numbers_here : (line : List ℕ) (at : ℕ) (p : Pair) → Both (Numeral line) at p → two_numbers line at ≡ Ok p
+numbers_here line at p h = both_here (Numeral line) (number_here line) (number_here_lem line) at p h
 
-pub times-stand : (line : List ℕ) (at : ℕ) (p : Pair) → two_times line at ≡ Ok p → Both (TimeOfDay line) at p
-times-stand line at p h = both-stand (TimeOfDay line) (time_here line) (time_stands line) at p h
+pub times_stand : (line : List ℕ) (at : ℕ) (p : Pair) → two_times line at ≡ Ok p → Both (TimeOfDay line) at p
+times_stand line at p h = both_stand (TimeOfDay line) (time_here line) (time_stands line) at p h
 
-pub times-here : (line : List ℕ) (at : ℕ) (p : Pair) → Both (TimeOfDay line) at p → two_times line at ≡ Ok p
-times-here line at p h = both-here (TimeOfDay line) (time_here line) (time_here_lem line) at p h
+pub times_here : (line : List ℕ) (at : ℕ) (p : Pair) → Both (TimeOfDay line) at p → two_times line at ≡ Ok p
+times_here line at p h = both_here (TimeOfDay line) (time_here line) (time_here_lem line) at p h
 
 -- an answer that came of a test
 pub taken : {X : Type 0} (b : Bool) (r : Result X LineFault) (e : LineFault) (x : X) → cond b r (Err e) ≡ Ok x → (b ≡ true) × (r ≡ Ok x)

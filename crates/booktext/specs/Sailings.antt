@@ -20,14 +20,14 @@ sailing_of line =
 -- the word, then four numbers and two times, each from the byte after the one before, and the last up to the end
 pub record SailingLine (line : List ℕ) (s : Sailing) : Type 0 where
   pub after_run : ℕ
-  pub after-leg : ℕ
-  pub after-from : ℕ
-  pub after-to : ℕ
-  pub after-dep : ℕ
+  pub after_leg : ℕ
+  pub after_from : ℕ
+  pub after_to : ℕ
+  pub after_dep : ℕ
   pub word : take 7 line ≡ codes "sailing"
   pub run : Numeral line 7 (record { value = s.run; next = after_run })
-  pub leg : Numeral line after_run (record { value = s.leg; next = after-leg })
-  pub from : Numeral line after-leg (record { value = s.from; next = after-from })
-  pub to : Numeral line after-from (record { value = s.to; next = after-to })
-  pub dep : TimeOfDay line after-to (record { value = s.dep; next = after-dep })
-  pub arr : TimeOfDay line after-dep (record { value = s.arr; next = length line })
+  pub leg : Numeral line after_run (record { value = s.leg; next = after_leg })
+  pub from : Numeral line after_leg (record { value = s.from; next = after_from })
+  pub to : Numeral line after_from (record { value = s.to; next = after_to })
+  pub dep : TimeOfDay line after_to (record { value = s.dep; next = after_dep })
+  pub arr : TimeOfDay line after_dep (record { value = s.arr; next = length line })

@@ -13,6 +13,7 @@ use books::printed::Printed;
 use image::check::check_image;
 use image::fault::Kind;
 use std::fs;
+use std::process::ExitCode;
 use typed::text::Text;
 
 fn read_book(rt: &HostRuntime) -> anyhow::Result<Vec<u8>> {
@@ -38,10 +39,13 @@ fn run(rt: &HostRuntime) -> anyhow::Result<()> {
     }
 }
 
-fn main(rt: HostRuntime) -> anyhow::Result<()> {
-    let outcome = run(&rt);
-    if let Err(error) = &outcome {
-        eprintln!(rt; "canalroute: {error}")?;
+fn main(rt: HostRuntime) -> ExitCode {
+    match run(&rt) {
+        Ok(()) => ExitCode::SUCCESS,
+        Err(error) => {
+            // where this cannot be written either, the status alone tells
+            let _ = eprintln!(rt; "canalroute: {error}");
+            ExitCode::FAILURE
+        }
     }
-    outcome
 }

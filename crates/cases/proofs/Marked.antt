@@ -8,7 +8,7 @@ use Rattle.thinning.proofs.Tested.{dominance}
 use Rattle.cases.specs.Mill.{mill}
 use Rattle.cases.proofs.Tests.{all_below}
 use Rattle.cases.specs.Marks.{WorkedMarks}
-use Rattle.cases.proofs.Potentials.{all-below, inside}
+use Rattle.cases.proofs.Potentials.{all_below_lem, inside}
 
 abbrev pub agree : Bool → Bool → Bool
 agree true b = b
@@ -22,12 +22,12 @@ agree_same false false h = refl
 abbrev pub marks_hold : List Bool → Bool
 marks_hold marks = all_below (λ p. agree (get_or marks p false) (mark_of (mill 30) p)) (length (mill 30).places)
 
-pub marks-right : (marks : List Bool) → length marks ≡ length (mill 30).places → marks_hold marks ≡ true → dominated_in (mill 30) ≡ many (λ p. get_or marks p false) (length marks) → WorkedMarks marks
-marks-right marks wide h told = record {
+pub marks_right : (marks : List Bool) → length marks ≡ length (mill 30).places → marks_hold marks ≡ true → dominated_in (mill 30) ≡ many (λ p. get_or marks p false) (length marks) → WorkedMarks marks
+marks_right marks wide h told = record {
   wide = wide;
   told = told;
   each = λ p s e.
       let same : get_or marks p false ≡ mark_of (mill 30) p =
-      agree_same _ _ (all-below (λ k. agree (get_or marks k false) (mark_of (mill 30) k)) (length (mill 30).places) h p (inside (mill 30) p s e)) in
+      agree_same _ _ (all_below_lem (λ k. agree (get_or marks k false) (mark_of (mill 30) k)) (length (mill 30).places) h p (inside (mill 30) p s e)) in
       Decides-at (get_or marks p false) (dominated (mill 30) p s) (same ∙ ap (λ x. passes (dominated (mill 30) p) x) e) (dominance (mill 30) p s);
 }

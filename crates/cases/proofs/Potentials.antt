@@ -8,7 +8,7 @@ use Rattle.timetable.specs.declared.query.Leg.{Leg}
 use Rattle.timetable.specs.Classes.{class_minutes}
 use Rattle.timetable.specs.Times.{length_of, next}
 use Rattle.timetable.specs.Timetables.{Timetable, place_at}
-use Rattle.timetable.proofs.Laws.{next-least, next_mono}
+use Rattle.timetable.proofs.Laws.{next_least, next_mono}
 use Rattle.journey.specs.Journeys.{wait, Stand, start, after, Leads, Journey}
 use Rattle.cases.proofs.Tests.{all_below, Potential, is_not_after, boards, leaves_by, lands, lands_at, stays, no_sooner}
 
@@ -25,12 +25,12 @@ keeps-later : (b : Option ℕ) (m n : ℕ) → m ≤ n → Keeps b m → Keeps b
 keeps-later None m n h k = k
 keeps-later (Some x) m n h k = omega arith
 
-pub all-below : (f : ℕ → Bool) (n : ℕ) → all_below f n ≡ true → (p : ℕ) → p < n → f p ≡ true
-all-below f zero h p less = absurd (omega arith)
-all-below f (suc n) h p less =
+pub all_below_lem : (f : ℕ → Bool) (n : ℕ) → all_below f n ≡ true → (p : ℕ) → p < n → f p ≡ true
+all_below_lem f zero h p less = absurd (omega arith)
+all_below_lem f (suc n) h p less =
     let both : (f n ≡ true) × (all_below f n ≡ true) = and_parts _ _ h in
     elim (cases_lt p n) [
-      | inl l ↦ all-below f n both.1 p l
+      | inl l ↦ all_below_lem f n both.1 p l
       | inr g ↦ let e : n ≡ p = omega arith in subst (λ k. f k ≡ true) e both.0
     ]
 
@@ -51,13 +51,13 @@ Covers t bounds here = (p : ℕ) (s : Sailing) → place_at t p ≡ Some s → s
 
 pub covers : (t : Timetable) (bounds : Potential) (here : Stand) → leaves_by t bounds here ≡ true → Covers t bounds here
 covers t bounds here h p s e f =
-    let at : boards here (place_at t p) (get_or bounds p None) ≡ true = all-below _ (length t.places) h p (inside t p s e) in
+    let at : boards here (place_at t p) (get_or bounds p None) ≡ true = all_below_lem _ (length t.places) h p (inside t p s e) in
     let on : boards here (Some s) (get_or bounds p None) ≡ true = subst (λ x. boards here x (get_or bounds p None) ≡ true) e at in
     not_after _ _ (unless s.from here.quay _ f on)
 
 -- who arrives later is covered too, since the next departure never falls with the minute
-covers-later : (t : Timetable) (extra : ℕ) (bounds : Potential) (r : Sailing) (m n : ℕ) → m ≤ n → Covers t bounds (after t extra r m) → Covers t bounds (after t extra r n)
-covers-later t extra bounds r m n h c p s e f =
+covers_later : (t : Timetable) (extra : ℕ) (bounds : Potential) (r : Sailing) (m n : ℕ) → m ≤ n → Covers t bounds (after t extra r m) → Covers t bounds (after t extra r n)
+covers_later t extra bounds r m n h c p s e f =
     let soon = next_mono s (m + wait t extra r s) (n + wait t extra r s) (omega arith) in
     keeps-later (get_or bounds p None) _ _ (omega (arith, soon)) (c p s e f)
 
@@ -67,7 +67,7 @@ module _ (t : Timetable) (q : Query) (answer : Option ℕ) (bounds : Potential) 
 
   landed : (p : ℕ) (r : Sailing) (m : ℕ) → place_at t p ≡ Some r → get_or bounds p None ≡ Some m → lands t q answer bounds (Some r) (Some m) ≡ true
   landed p r m e f =
-      let at : lands t q answer bounds (place_at t p) (get_or bounds p None) ≡ true = all-below (lands_at t q answer bounds) (length t.places) (and_parts (stays q answer && leaves_by t bounds (start q.from q.minute)) _ h).1 p (inside t p r e) in
+      let at : lands t q answer bounds (place_at t p) (get_or bounds p None) ≡ true = all_below_lem (lands_at t q answer bounds) (length t.places) (and_parts (stays q answer && leaves_by t bounds (start q.from q.minute)) _ h).1 p (inside t p r e) in
       let by : lands t q answer bounds (Some r) (get_or bounds p None) ≡ true = subst (λ x. lands t q answer bounds x (get_or bounds p None) ≡ true) e at in
       subst (λ x. lands t q answer bounds (Some r) x ≡ true) f by
 
@@ -82,17 +82,17 @@ module _ (t : Timetable) (q : Query) (answer : Option ℕ) (bounds : Potential) 
           → Keeps answer a
       go None e k again = absurd k
       go (Some m) e k again =
-          let soon = next-least s (here.due s) leg.leaves f.leaves f.ready in
+          let soon = next_least s (here.due s) leg.leaves f.leaves f.ready in
           let due = f.arrives in
           let late : m ≤ leg.arrives = omega arith in
           let land = and_parts _ _ (landed leg.place s m f.sailing e) in
           again
-          (covers-later t (class_minutes q.class) bounds s m leg.arrives late (covers t bounds (after t (class_minutes q.class) s m) land.0))
+          (covers_later t (class_minutes q.class) bounds s m leg.arrives late (covers t bounds (after t (class_minutes q.class) s m) land.0))
           (λ there. keeps-later answer m leg.arrives late (not_after answer m (unless s.to q.to _ there land.1)))
           rest
 
-  pub no-sooner : (legs : List Leg) (a : ℕ) → Journey t q legs a → Keeps answer a
-  no-sooner legs a j =
+  pub no_sooner_lem : (legs : List Leg) (a : ℕ) → Journey t q legs a → Keeps answer a
+  no_sooner_lem legs a j =
       bounded (start q.from q.minute) legs a
       (covers t bounds (start q.from q.minute) (and_parts (stays q answer) _ begins).1)
       (λ there. not_after answer q.minute (unless q.from q.to _ there (and_parts (stays q answer) _ begins).0))

@@ -13,20 +13,20 @@ use Rattle.cases.proofs.Tests.{Potential, leads_to, no_legs, holds}
 use Rattle.cases.specs.Cases.{asks, questions, question_of, book_for, Answered, Right, Worked}
 use Rattle.cases.proofs.Bounds.{bounds_for}
 use Rattle.cases.proofs.Plans.{plan_leads}
-use Rattle.cases.proofs.Potentials.{no-sooner}
+use Rattle.cases.proofs.Potentials.{no_sooner_lem}
 
-no-legs : (legs : List Leg) → no_legs legs ≡ true → legs ≡ []
-no-legs [] h = refl
-no-legs (x ∷ xs) h = absurd (false≢true h)
+no_legs_lem : (legs : List Leg) → no_legs legs ≡ true → legs ≡ []
+no_legs_lem [] h = refl
+no_legs_lem (x ∷ xs) h = absurd (false≢true h)
 
 -- what passes the test is right
 pub answered : (t : Timetable) (q : Query) (answer : Option ℕ) (legs : List Leg) (bounds : Potential) → holds t q answer legs bounds ≡ true → Answered t q answer legs
 answered t q None legs bounds h =
     let both = and_parts (no_legs legs) _ h in
-    (no-legs legs both.0, no-sooner t q None bounds both.1)
+    (no_legs_lem legs both.0, no_sooner_lem t q None bounds both.1)
 answered t q (Some a) legs bounds h =
     let both = and_parts (leads_to t (class_minutes q.class) (start q.from q.minute) legs q.to a) _ h in
-    (plan_leads t _ _ legs q.to a both.0, no-sooner t q (Some a) bounds both.1)
+    (plan_leads t _ _ legs q.to a both.0, no_sooner_lem t q (Some a) bounds both.1)
 
 -- the test of a case
 abbrev pub row_holds : Case → Bool
@@ -49,5 +49,5 @@ pub worked : (cases : List Case) → map question_of cases ≡ questions → tab
 worked cases e h = record {
   asked = e;
   right = table_right cases h;
-  never = λ m k. no-sooner (mill 30) (asks 3 0 m k) None [] refl;
+  never = λ m k. no_sooner_lem (mill 30) (asks 3 0 m k) None [] refl;
 }

@@ -23,8 +23,8 @@ data Sought (ps : List (Option Sailing)) (q u n : ℕ) (o : Option ℕ) : Type 0
   some : (s : Sailing) (m : ℕ) → Early ps q n s → m ≡ next s u → ((x : Sailing) → Early ps q n x → m ≤ next x u) → o ≡ Some m → Sought ps q u n o
 
 -- a sailing of the first n + 1 places is the last of them or one before
-early-cases : (ps : List (Option Sailing)) (q n : ℕ) (s : Sailing) → Early ps q (suc n) s → (P : Type 0) → ((get_or ps n None ≡ Some s) → s.from ≡ q → P) → (Early ps q n s → P) → P
-early-cases ps q n s e P last before =
+early_cases : (ps : List (Option Sailing)) (q n : ℕ) (s : Sailing) → Early ps q (suc n) s → (P : Type 0) → ((get_or ps n None ≡ Some s) → s.from ≡ q → P) → (Early ps q n s → P) → P
+early_cases ps q n s e P last before =
     ⊎_elim
     (λ same. last (subst (λ p. get_or ps p None ≡ Some s) same e.there) e.leaves)
     (λ other. before (record { place = e.place; low = omega (arith, e.low, other); there = e.there; leaves = e.leaves }))
@@ -36,23 +36,23 @@ more ps q n s e = record { place = e.place; low = omega (arith, e.low); there = 
 module _ (ps : List (Option Sailing)) (q u n : ℕ) where
   -- the last place holds no sailing from q
   skip : (best : Option ℕ) → ((s : Sailing) → get_or ps n None ≡ Some s → s.from ≡ q → ⊥) → Sought ps q u n best → Sought ps q u (suc n) best
-  skip best h (none lack e) = none (λ s x. early-cases ps q n s x ⊥ (h s) (lack s)) e
-  skip best h (some s m x a l e) = some s m (more ps q n s x) a (λ y z. early-cases ps q n y z (m ≤ next y u) (λ g f. absurd (h y g f)) (l y)) e
+  skip best h (none lack e) = none (λ s x. early_cases ps q n s x ⊥ (h s) (lack s)) e
+  skip best h (some s m x a l e) = some s m (more ps q n s x) a (λ y z. early_cases ps q n y z (m ≤ next y u) (λ g f. absurd (h y g f)) (l y)) e
 
   -- it holds s, which leaves q
   meet : (best : Option ℕ) (s : Sailing) → get_or ps n None ≡ Some s → s.from ≡ q → Sought ps q u n best → Sought ps q u (suc n) (sooner best (Some (next s u)))
   meet best s g f (none lack e) =
       some s (next s u) (record { place = n; low = omega arith; there = g; leaves = f }) refl
-      (λ y z. early-cases ps q n y z (next s u ≤ next y u) (λ k _. let same : s ≡ y = cc in subst (λ w. next s u ≤ next w u) same (omega arith)) (λ b. absurd (lack y b)))
+      (λ y z. early_cases ps q n y z (next s u ≤ next y u) (λ k _. let same : s ≡ y = cc in subst (λ w. next s u ≤ next w u) same (omega arith)) (λ b. absurd (lack y b)))
       (ap (λ o. sooner o (Some (next s u))) e)
   meet best s g f (some r m x a l e) =
       let here : Early ps q (suc n) s = record { place = n; low = omega arith; there = g; leaves = f } in
       ⊎_elim
       (λ lower. some s (next s u) here refl
-      (λ y z. early-cases ps q n y z (next s u ≤ next y u) (λ k _. let same : s ≡ y = cc in subst (λ w. next s u ≤ next w u) same (omega arith)) (λ b. omega (arith, l y b)))
+      (λ y z. early_cases ps q n y z (next s u ≤ next y u) (λ k _. let same : s ≡ y = cc in subst (λ w. next s u ≤ next w u) same (omega arith)) (λ b. omega (arith, l y b)))
       (ap (λ o. sooner o (Some (next s u))) e ∙ ap Some (omega arith)))
       (λ upper. some r m (more ps q n r x) a
-      (λ y z. early-cases ps q n y z (m ≤ next y u) (λ k _. let same : s ≡ y = cc in subst (λ w. m ≤ next w u) same upper) (l y))
+      (λ y z. early_cases ps q n y z (m ≤ next y u) (λ k _. let same : s ≡ y = cc in subst (λ w. m ≤ next w u) same upper) (l y))
       (ap (λ o. sooner o (Some (next s u))) e ∙ ap Some (omega arith)))
       (cases_lt (next s u) m)
 
@@ -91,8 +91,8 @@ module _ (t : Timetable) (q u : ℕ) where
       go (none lack e) = λ s f. lack s (seen s f)
       go (some s m x a l e) = let z : ◌≡◌ {A = ℕ} 0 1 = cc in absurd (omega arith)
 
-  pub some-told : (m : ℕ) → soonest t.places q u (length t.places) ≡ Some m → Earliest t q u m
-  some-told m h = go (sought t.places q u (length t.places))
+  pub some_told : (m : ℕ) → soonest t.places q u (length t.places) ≡ Some m → Earliest t q u m
+  some_told m h = go (sought t.places q u (length t.places))
     where
       go : Sought t.places q u (length t.places) (soonest t.places q u (length t.places)) → Earliest t q u m
       go (none lack e) = let z : ◌≡◌ {A = ℕ} 0 1 = cc in absurd (omega arith)
@@ -107,8 +107,8 @@ module _ (t : Timetable) (q u : ℕ) where
       go (none n e) = e
       go (some s m x a l e) = absurd (lack s (met s x))
 
-  pub told-some : (m : ℕ) → Earliest t q u m → soonest t.places q u (length t.places) ≡ Some m
-  told-some m h = go (sought t.places q u (length t.places))
+  pub told_some : (m : ℕ) → Earliest t q u m → soonest t.places q u (length t.places) ≡ Some m
+  told_some m h = go (sought t.places q u (length t.places))
     where
       go : Sought t.places q u (length t.places) (soonest t.places q u (length t.places)) → soonest t.places q u (length t.places) ≡ Some m
       go (none lack e) = absurd (lack h.sailing (seen h.sailing h.from))
@@ -118,8 +118,8 @@ module _ (t : Timetable) (q u : ℕ) where
   pub earliest_soon : Lawful t → (m : ℕ) → Earliest t q u m → m < u + day
   earliest_soon law m h =
       let s = h.sailing in
-      omega (arith, next_soon s (law.within h.from.place s h.from.there).dep-day u, h.attained)
+      omega (arith, next_soon s (law.within h.from.place s h.from.there).dep_day u, h.attained)
 
   -- so does what the walk finds
   pub told_soon : Lawful t → (m : ℕ) → Some m ≡ soonest t.places q u (length t.places) → m < u + day
-  told_soon law m e = earliest_soon law m (some-told m (sym e))
+  told_soon law m e = earliest_soon law m (some_told m (sym e))

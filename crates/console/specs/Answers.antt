@@ -17,7 +17,7 @@ four_bytes m = m % 256 ∷ m / 256 % 256 ∷ m / 65536 % 256 ∷ m / 16777216 % 
 pub data Answers (image : List ℕ) (quay minute : ℕ) (given left : List ℕ) (code : ℕ) : Type 0 where
   -- the number of the first thing that is wrong with the image
   no_image : (e : Fault) → First (Wrong image) e → code ≡ number_of e.refusal → left ≡ given → Answers image quay minute given left code
-  no-quay : (t : Timetable) → Holds image t → length t.changes ≤ quay → code ≡ number_of NoQuay → left ≡ given → Answers image quay minute given left code
+  no_quay : (t : Timetable) → Holds image t → length t.changes ≤ quay → code ≡ number_of NoQuay → left ≡ given → Answers image quay minute given left code
   late : (t : Timetable) → Holds image t → quay < length t.changes → day ≤ minute → code ≡ number_of LateMinute → left ≡ given → Answers image quay minute given left code
   short : (t : Timetable) → Holds image t → quay < length t.changes → minute < day → length given < 4 → code ≡ number_of ShortBuffer → left ≡ given → Answers image quay minute given left code
   never : (t : Timetable) → Holds image t → quay < length t.changes → minute < day → 4 ≤ length given → NoneFrom t quay → code ≡ 255 → left ≡ given → Answers image quay minute given left code

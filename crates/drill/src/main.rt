@@ -22,6 +22,7 @@ use crate::tally::Tally;
 use anyhow::anyhow;
 use books::printed::Printed;
 use std::alloc::Global;
+use std::process::ExitCode;
 
 const SEED: u64 = 1872;
 
@@ -76,10 +77,13 @@ fn run(rt: &HostRuntime) -> anyhow::Result<()> {
     Ok(())
 }
 
-fn main(rt: HostRuntime) -> anyhow::Result<()> {
-    let outcome = run(&rt);
-    if let Err(error) = &outcome {
-        println!(rt; "{error}")?;
+fn main(rt: HostRuntime) -> ExitCode {
+    match run(&rt) {
+        Ok(()) => ExitCode::SUCCESS,
+        Err(error) => {
+            // where this cannot be written either, the status alone tells
+            let _ = println!(rt; "{error}");
+            ExitCode::FAILURE
+        }
     }
-    outcome
 }

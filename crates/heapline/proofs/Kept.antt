@@ -9,37 +9,37 @@ use Rattle.queue.specs.Lines.{First}
 use Rattle.heapline.specs.declared.entry.Waiting.{Waiting}
 use Rattle.heapline.specs.Ranks.{rank_of_waiting}
 use Rattle.heapline.specs.Tallies.{key_of, times_of, code, waits, Tallies}
-use Rattle.heapline.proofs.Sums.{key, key-yes, key-no, once-yes, once-no, key-cons, once-cons, absent, present, added-once, added-key, replaced-once, replaced-key, taken-once, taken_had, taken-key}
+use Rattle.heapline.proofs.Sums.{key, key_yes, key_no, once_yes, once_no, key_cons, once_cons, absent, present, added_once, added_key, replaced_once, replaced_key, taken_once, taken_had, taken_key}
 
 pub decode : (x : Option ℕ) (k : ℕ) → code x ≡ k + 1 → x ≡ Some k
 decode None k e = absurd (omega arith)
 decode (Some a) k e = let s : a ≡ k = omega arith in ap {B = Option ℕ} Some s
 
-pub decode-none : (x : Option ℕ) → code x ≡ 0 → x ≡ None
-decode-none None e = refl
-decode-none (Some a) e = absurd (omega arith)
+pub decode_none : (x : Option ℕ) → code x ≡ 0 → x ≡ None
+decode_none None e = refl
+decode_none (Some a) e = absurd (omega arith)
 
 -- only an item that there is has a key
-pub has-inside : (keys : List (Option ℕ)) (i : ℕ) → 0 < code (get_or keys i None) → i < length keys
-has-inside keys i h = ⊎_elim (λ lt. lt) (λ le. let z = ap code (get_or_past keys i None le) in absurd (omega arith)) (cases_lt i (length keys))
+pub has_inside : (keys : List (Option ℕ)) (i : ℕ) → 0 < code (get_or keys i None) → i < length keys
+has_inside keys i h = ⊎_elim (λ lt. lt) (λ le. let z = ap code (get_or_past keys i None le) in absurd (omega arith)) (cases_lt i (length keys))
 
 -- who has no key is not among those that wait
-none-there : (ws : List Waiting) (i : ℕ) → key_of ws i ≡ 0 → times_of ws i ≡ 0
-none-there [] i h = refl
-none-there (w ∷ ws) i h =
-    let t = once-cons i w ws in
-    let k = key-cons i w ws in
-    ⊎_elim (λ e. let y = key-yes i w e in absurd (omega arith)) (λ e. let o = once-no i w e in let r = none-there ws i (omega arith) in omega arith) (cases_Bool (eqb w.item i))
+none_there : (ws : List Waiting) (i : ℕ) → key_of ws i ≡ 0 → times_of ws i ≡ 0
+none_there [] i h = refl
+none_there (w ∷ ws) i h =
+    let t = once_cons i w ws in
+    let k = key_cons i w ws in
+    ⊎_elim (λ e. let y = key_yes i w e in absurd (omega arith)) (λ e. let o = once_no i w e in let r = none_there ws i (omega arith) in omega arith) (cases_Bool (eqb w.item i))
 
 -- who has a key is
 entry_of : (ws : List Waiting) (i k : ℕ) (d : Waiting) → times_of ws i ≤ 1 → key_of ws i ≡ k + 1 → (j : ℕ) × (j < length ws) × ((get_or ws j d).item ≡ i) × ((get_or ws j d).key ≡ k)
 entry_of [] i k d h e = absurd (omega arith)
 entry_of (w ∷ ws) i k d h e =
-    let t = once-cons i w ws in
-    let c = key-cons i w ws in
+    let t = once_cons i w ws in
+    let c = key_cons i w ws in
     ⊎_elim
-    (λ y. let o = once-yes i w y in let n = key-yes i w y in let a = absent i ws (omega arith) in (0, omega arith, eqb-true w.item i y, omega arith))
-    (λ y. let o = once-no i w y in let n = key-no i w y in let (j, a, b, f) = entry_of ws i k d (omega arith) (omega arith) in (suc j, omega arith, b, f))
+    (λ y. let o = once_yes i w y in let n = key_yes i w y in let a = absent i ws (omega arith) in (0, omega arith, eqb-true w.item i y, omega arith))
+    (λ y. let o = once_no i w y in let n = key_no i w y in let (j, a, b, f) = entry_of ws i k d (omega arith) (omega arith) in (suc j, omega arith, b, f))
     (cases_Bool (eqb w.item i))
 
 code-set : (keys : List (Option ℕ)) (item : ℕ) (x : Option ℕ) (i : ℕ) → item < length keys → code (get_or (set keys item x) i None) ≡ cond (eqb item i) (code x) (code (get_or keys i None))
@@ -59,28 +59,28 @@ ones_none : (x : Option ℕ) → x ≡ None → ones x ≡ 0
 unfolding ones
 ones_none x e = ap (λ o. cond (waits o) 1 0) e
 
-ones-some : (x : Option ℕ) (k : ℕ) → x ≡ Some k → ones x ≡ 1
+ones_some : (x : Option ℕ) (k : ℕ) → x ≡ Some k → ones x ≡ 1
 unfolding ones
-ones-some x k e = ap (λ o. cond (waits o) 1 0) e
+ones_some x k e = ap (λ o. cond (waits o) 1 0) e
 
 module _ (ws : List Waiting) (keys : List (Option ℕ)) (t : Tallies ws keys) where
   -- no more wait than there are items
-  pub few-wait : length ws ≤ length keys
-  few-wait = omega (arith, t.counted, count_by-le-length waits keys)
+  pub few_wait : length ws ≤ length keys
+  few_wait = omega (arith, t.counted, count_by-le-length waits keys)
 
   -- and fewer, where one does not
-  pub fewer-wait : (item : ℕ) → item < length keys → get_or keys item None ≡ None → length ws < length keys
-  fewer-wait item h e =
+  pub fewer_wait : (item : ℕ) → item < length keys → get_or keys item None ≡ None → length ws < length keys
+  fewer_wait item h e =
       let a = counts keys item (Some 0) h in
       let b = ones_none (get_or keys item None) e in
-      let c = ones-some (Some 0) 0 refl in
+      let c = ones_some (Some 0) 0 refl in
       let d = count_by-le-length waits (set keys item (Some 0)) in
       let f = length-set {A = Option ℕ} keys item (Some 0) in
       let g = t.counted in
       omega arith
 
-  pub absent-row : (item : ℕ) → get_or keys item None ≡ None → times_of ws item ≡ 0
-  absent-row item e = none-there ws item (t.tied item ∙ ap code e)
+  pub absent_row : (item : ℕ) → get_or keys item None ≡ None → times_of ws item ≡ 0
+  absent_row item e = none_there ws item (t.tied item ∙ ap code e)
 
   -- every one that waits is an item
   pub row_inside : (j : ℕ) (d : Waiting) → j < length ws → (get_or ws j d).item < length keys
@@ -88,9 +88,9 @@ module _ (ws : List Waiting) (keys : List (Option ℕ)) (t : Tallies ws keys) wh
       let i = (get_or ws j d).item in
       let same = eq-eqb i i refl in
       let k = present i j ws d (t.single i) l same in
-      let y = key-yes i (get_or ws j d) same in
+      let y = key_yes i (get_or ws j d) same in
       let e = t.tied i in
-      has-inside keys i (omega arith)
+      has_inside keys i (omega arith)
 
   -- and is told from the others by its rank
   pub same_item : (j item key : ℕ) (d : Waiting) → j < length ws → length keys ≤ 65536 → item < 65536 → rank_of_waiting (get_or ws j d) ≡ key * 65536 + item → (get_or ws j d).item ≡ item
@@ -104,29 +104,29 @@ module _ (ws : List Waiting) (keys : List (Option ℕ)) (t : Tallies ws keys) wh
     abbrev w : Waiting
     w = record { key = key; item = item }
 
-    pub tallies-added : get_or keys item None ≡ None → IsPermutation (w ∷ ws) new → Tallies new (set keys item (Some key))
-    tallies-added none shuffled =
-        let z = absent-row item none in
+    pub tallies_added : get_or keys item None ≡ None → IsPermutation (w ∷ ws) new → Tallies new (set keys item (Some key))
+    tallies_added none shuffled =
+        let z = absent_row item none in
         record {
-          single = added-once ws new w shuffled z t.single;
-          tied = λ i. added-key ws new w shuffled z i ∙ ap (λ x. cond (eqb item i) (key + 1) x) (t.tied i) ∙ sym (code-set keys item (Some key) i inside);
+          single = added_once ws new w shuffled z t.single;
+          tied = λ i. added_key ws new w shuffled z i ∙ ap (λ x. cond (eqb item i) (key + 1) x) (t.tied i) ∙ sym (code-set keys item (Some key) i inside);
           counted =
               let a = counts keys item (Some key) inside in
               let b = ones_none (get_or keys item None) none in
-              let c = ones-some (Some key) key refl in
+              let c = ones_some (Some key) key refl in
               let g = t.counted in
               let l = length_permutation (w ∷ ws) new shuffled in
               omega arith;
         }
 
-    pub tallies-replaced : (before place : ℕ) → get_or keys item None ≡ Some before → place < length ws → (get_or ws place w).item ≡ item → IsPermutation (set ws place w) new → Tallies new (set keys item (Some key))
-    tallies-replaced before place some l same shuffled = record {
-      single = replaced-once ws new place w w shuffled l same t.single;
-      tied = λ i. replaced-key ws new place w w shuffled l same t.single i ∙ ap (λ x. cond (eqb item i) (key + 1) x) (t.tied i) ∙ sym (code-set keys item (Some key) i inside);
+    pub tallies_replaced : (before place : ℕ) → get_or keys item None ≡ Some before → place < length ws → (get_or ws place w).item ≡ item → IsPermutation (set ws place w) new → Tallies new (set keys item (Some key))
+    tallies_replaced before place some l same shuffled = record {
+      single = replaced_once ws new place w w shuffled l same t.single;
+      tied = λ i. replaced_key ws new place w w shuffled l same t.single i ∙ ap (λ x. cond (eqb item i) (key + 1) x) (t.tied i) ∙ sym (code-set keys item (Some key) i inside);
       counted =
           let a = counts keys item (Some key) inside in
-          let b = ones-some (get_or keys item None) before some in
-          let c = ones-some (Some key) key refl in
+          let b = ones_some (get_or keys item None) before some in
+          let c = ones_some (Some key) key refl in
           let g = t.counted in
           let l₁ = length_permutation (set ws place w) new shuffled in
           let l₂ = length-set ws place w in
@@ -137,46 +137,46 @@ module _ (ws : List Waiting) (keys : List (Option ℕ)) (t : Tallies ws keys) wh
     pub took : get_or keys w.item None ≡ Some w.key
     took = decode (get_or keys w.item None) w.key (sym (t.tied w.item) ∙ taken_had ws new w shuffled t.single)
 
-    pub took-inside : w.item < length keys
-    took-inside = has-inside keys w.item (let e = ap code took in omega arith)
+    pub took_inside : w.item < length keys
+    took_inside = has_inside keys w.item (let e = ap code took in omega arith)
 
-    pub tallies-taken : Tallies new (set keys w.item None)
-    tallies-taken = record {
-      single = taken-once ws new w shuffled t.single;
-      tied = λ i. taken-key ws new w shuffled t.single i ∙ ap (λ x. cond (eqb w.item i) 0 x) (t.tied i) ∙ sym (code-set keys w.item None i took-inside);
+    pub tallies_taken : Tallies new (set keys w.item None)
+    tallies_taken = record {
+      single = taken_once ws new w shuffled t.single;
+      tied = λ i. taken_key ws new w shuffled t.single i ∙ ap (λ x. cond (eqb w.item i) 0 x) (t.tied i) ∙ sym (code-set keys w.item None i took_inside);
       counted =
-          let a = counts keys w.item None took-inside in
-          let b = ones-some (get_or keys w.item None) w.key took in
+          let a = counts keys w.item None took_inside in
+          let b = ones_some (get_or keys w.item None) w.key took in
           let c = ones_none None refl in
           let g = t.counted in
           let l = length_permutation ws (w ∷ new) shuffled in
           omega arith;
     }
 
-    pub is-first : length keys ≤ 65536 → ((j : ℕ) (d : Waiting) → j < length ws → rank_of_waiting w ≤ rank_of_waiting (get_or ws j d)) → First keys w.item w.key
-    is-first few least = record {
+    pub is_first : length keys ≤ 65536 → ((j : ℕ) (d : Waiting) → j < length ws → rank_of_waiting w ≤ rank_of_waiting (get_or ws j d)) → First keys w.item w.key
+    is_first few least = record {
       waits = took;
       least = λ j k e.
           let (at, a, b, c) = entry_of ws j k w (t.single j) (t.tied j ∙ ap code e) in
           let r = least at w a in
-          let in₁ = took-inside in
+          let in₁ = took_inside in
           let in₂ = row_inside at w a in
           omega arith;
       lowest = λ j e.
           let (at, a, b, c) = entry_of ws j w.key w (t.single j) (t.tied j ∙ ap code e) in
           let r = least at w a in
-          let in₁ = took-inside in
+          let in₁ = took_inside in
           let in₂ = row_inside at w a in
           omega arith;
     }
 
 -- where nothing waits, no item has a key
-pub none-wait : (keys : List (Option ℕ)) → Tallies [] keys → (i : ℕ) → get_or keys i None ≡ None
-none-wait keys t i = decode-none (get_or keys i None) (sym (t.tied i))
+pub none_wait : (keys : List (Option ℕ)) → Tallies [] keys → (i : ℕ) → get_or keys i None ≡ None
+none_wait keys t i = decode_none (get_or keys i None) (sym (t.tied i))
 
 -- the first of those that wait is forgotten
 pub tallies_forgets : (w : Waiting) (ws : List Waiting) (keys : List (Option ℕ)) → Tallies (w ∷ ws) keys → Tallies ws (set keys w.item None)
-tallies_forgets w ws keys t = tallies-taken (w ∷ ws) keys t w ws (IsPermutation-refl (w ∷ ws))
+tallies_forgets w ws keys t = tallies_taken (w ∷ ws) keys t w ws (IsPermutation-refl (w ∷ ws))
 
 -- those that wait are forgotten one after another; i of them are
 module _ (ws : List Waiting) (keys : List (Option ℕ)) (i : ℕ) where

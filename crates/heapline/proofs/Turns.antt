@@ -15,7 +15,7 @@ use Rattle.heapline.specs.declared.line.HeapLine.{HeapLine}
 use Rattle.heapline.specs.Ranks.{rank_of_waiting}
 use Rattle.heapline.specs.Tallies.{code, Tallies}
 use Rattle.heapline.specs.Lines.{keys_of, Places}
-use Rattle.heapline.proofs.Kept.{fewer-wait, same_item, rank_there, tallies-added, tallies-replaced, took, tallies-taken, is-first, none-wait}
+use Rattle.heapline.proofs.Kept.{fewer_wait, same_item, rank_there, tallies_added, tallies_replaced, took, tallies_taken, is_first, none_wait}
 
 abbrev nothing : Option ℕ
 nothing = None
@@ -29,18 +29,18 @@ module _ (n : ℕ) (ks : List (Option ℕ)) where
       (cases_lt j n)
 
   module _ (inside : (i : ℕ) → n ≤ i → get_or ks i None ≡ None) where
-    waits-inside : (j k : ℕ) → Waits ks j k → j < n
-    waits-inside j k e = ⊎_elim (λ lt. lt) (λ le. let c = ap code (sym (inside j le) ∙ e) in absurd (omega arith)) (cases_lt j n)
+    waits_inside : (j k : ℕ) → Waits ks j k → j < n
+    waits_inside j k e = ⊎_elim (λ lt. lt) (λ le. let c = ap code (sym (inside j le) ∙ e) in absurd (omega arith)) (cases_lt j n)
 
-    first-counts : (i k : ℕ) → First ks i k → First (take n ks) i k
-    first-counts i k f = record {
-      waits = get_or-take n ks i None (waits-inside i k f.waits) ∙ f.waits;
+    first_counts : (i k : ℕ) → First ks i k → First (take n ks) i k
+    first_counts i k f = record {
+      waits = get_or-take n ks i None (waits_inside i k f.waits) ∙ f.waits;
       least = λ j m e. f.least j m (counts-waits j m e);
       lowest = λ j e. f.lowest j (counts-waits j k e);
     }
 
-  pub answers-inside : (item key : ℕ) → n ≤ length ks → item < n → record { answer : Ok tt ≡ set_answer (take n ks) item; after : take n (set ks item (Some key)) ≡ set_in (take n ks) item key }
-  answers-inside item key le h =
+  pub answers_inside : (item key : ℕ) → n ≤ length ks → item < n → record { answer : Ok tt ≡ set_answer (take n ks) item; after : take n (set ks item (Some key)) ≡ set_in (take n ks) item key }
+  answers_inside item key le h =
       let b = sym (lt-ltb item (length (take n ks)) (omega (arith, length-take-le n ks le))) in
       record {
         answer = ap (λ x. cond x (Ok tt) (Err NoItem)) b;
@@ -55,8 +55,8 @@ module _ (n : ℕ) (ks : List (Option ℕ)) where
         after = ap (λ x. cond x (set (take n ks) item (Some key)) (take n ks)) b;
       }
 
-  pub inside-set : (item : ℕ) (x : Option ℕ) → item < n → ((i : ℕ) → n ≤ i → get_or ks i None ≡ None) → (i : ℕ) → n ≤ i → get_or (set ks item x) i None ≡ None
-  inside-set item x h inside i le = get_or-set_other ks item i x None (λ e. omega arith) ∙ inside i le
+  pub inside_set : (item : ℕ) (x : Option ℕ) → item < n → ((i : ℕ) → n ≤ i → get_or ks i None ≡ None) → (i : ℕ) → n ≤ i → get_or (set ks item x) i None ≡ None
+  inside_set item x h inside i le = get_or-set_other ks item i x None (λ e. omega arith) ∙ inside i le
 
 module _ (h : HeapLine) where
   abbrev rows : List Waiting
@@ -68,11 +68,11 @@ module _ (h : HeapLine) where
   abbrev ws : List Waiting
   ws = take count rows
 
-  pub ws-long : length ws ≡ count
-  ws-long = length-take-le count rows (omega (arith, h.waiting.within, h.waiting.long))
+  pub ws_long : length ws ≡ count
+  ws_long = length-take-le count rows (omega (arith, h.waiting.within, h.waiting.long))
 
   pub tallies : Tallies ws h.keys
-  tallies = record { single = h.single; tied = h.tied; counted = ws-long ∙ h.counted }
+  tallies = record { single = h.single; tied = h.tied; counted = ws_long ∙ h.counted }
 
   all_held : held rows count ≡ count
   all_held = omega (arith, h.waiting.within, h.waiting.long)
@@ -85,14 +85,14 @@ module _ (h : HeapLine) where
     in_keys = omega (arith, h.few, h.long)
 
     -- the heap has room for an item that does not wait, and has the rank of one that does
-    pub never-refused : (new : List Waiting) (m : ℕ) (e : Refusal) → Places rows count (get_or h.keys item None) w new m (Err e) → ⊥
-    never-refused new m e = go (get_or h.keys item None) refl
+    pub never_refused : (new : List Waiting) (m : ℕ) (e : Refusal) → Places rows count (get_or h.keys item None) w new m (Err e) → ⊥
+    never_refused new m e = go (get_or h.keys item None) refl
       where
         go : (x : Option ℕ) → get_or h.keys item None ≡ x → Places rows count x w new m (Err e) → ⊥
-        go None is told = omega (arith, told.0.0, fewer-wait ws h.keys tallies item in_keys is, ws-long, h.waiting.long, h.long)
+        go None is told = omega (arith, told.0.0, fewer_wait ws h.keys tallies item in_keys is, ws_long, h.waiting.long, h.long)
         go (Some k) is told =
             let (j, a, r) = rank_there ws h.keys tallies item k w is in
-            let lt : j < count = omega (arith, ws-long) in
+            let lt : j < count = omega (arith, ws_long) in
             told.0.0 j w (omega (arith, all_held)) (ap rank_of_waiting (sym (get_or-take count rows j w lt)) ∙ r)
 
     pub placed : (new : List Waiting) (m : ℕ) (u : Unit) → Places rows count (get_or h.keys item None) w new m (Ok u) → Tallies (take m new) (set h.keys item (Some key)) × (length (take m new) ≡ m)
@@ -101,59 +101,59 @@ module _ (h : HeapLine) where
         go : (x : Option ℕ) → get_or h.keys item None ≡ x → Places rows count x w new m (Ok u) → Tallies (take m new) (set h.keys item (Some key)) × (length (take m new) ≡ m)
         go None is told =
             let s : IsPermutation (w ∷ ws) (take m new) = subst (λ i. IsPermutation (w ∷ ws) (take i new)) (sym told.1) told.0.entries in
-            (tallies-added ws h.keys tallies item key in_keys (take m new) is s, omega (arith, length_permutation (w ∷ ws) (take m new) s, ws-long, told.1))
+            (tallies_added ws h.keys tallies item key in_keys (take m new) is s, omega (arith, length_permutation (w ∷ ws) (take m new) s, ws_long, told.1))
         go (Some k) is told =
             let p = told.0.place in
             let lt : p < count = omega (arith, told.0.inside, all_held) in
-            let in-ws : p < length ws = omega (arith, ws-long) in
+            let in-ws : p < length ws = omega (arith, ws_long) in
             let s₁ : IsPermutation (set ws p w) (take count new) = subst (λ i. IsPermutation (set (take i rows) p w) (take i new)) all_held told.0.entries in
             let s : IsPermutation (set ws p w) (take m new) = subst (λ i. IsPermutation (set ws p w) (take i new)) (sym told.1) s₁ in
             let same = same_item ws h.keys tallies p item k w in-ws (omega (arith, h.long)) (omega (arith, h.few)) (ap rank_of_waiting (get_or-take count rows p w lt) ∙ told.0.ranked w) in
-            (tallies-replaced ws h.keys tallies item key in_keys (take m new) k p is in-ws same s, omega (arith, length_permutation (set ws p w) (take m new) s, length-set ws p w, ws-long, told.1))
+            (tallies_replaced ws h.keys tallies item key in_keys (take m new) k p is in-ws same s, omega (arith, length_permutation (set ws p w) (take m new) s, length-set ws p w, ws_long, told.1))
 
-  pub nothing-taken : held rows count ≡ 0 → (i k : ℕ) → Waits (keys_of h) i k → ⊥
-  nothing-taken z i k e =
+  pub nothing_taken : held rows count ≡ 0 → (i k : ℕ) → Waits (keys_of h) i k → ⊥
+  nothing_taken z i k e =
       let none : count ≡ 0 = omega (arith, all_held) in
       let t : Tallies [] h.keys = subst (λ n. Tallies (take n rows) h.keys) none tallies in
-      let c = ap code (sym (none-wait h.keys t i) ∙ counts-waits h.size h.keys i k e) in
+      let c = ap code (sym (none_wait h.keys t i) ∙ counts-waits h.size h.keys i k e) in
       omega arith
 
   module _ (w : Waiting) (new : List Waiting) (taken : Taken rank_of_waiting rows (held rows count) w new) where
     left : IsPermutation ws (w ∷ take (count - 1) new)
     left = subst (λ n. IsPermutation (take n rows) (w ∷ take (n - 1) new)) all_held taken.entries
 
-    pub taken-first : First (keys_of h) w.item w.key
-    taken-first = first-counts h.size h.keys h.inside w.item w.key
-        (is-first ws h.keys tallies w (take (count - 1) new) left (omega (arith, h.long))
+    pub taken_first : First (keys_of h) w.item w.key
+    taken_first = first_counts h.size h.keys h.inside w.item w.key
+        (is_first ws h.keys tallies w (take (count - 1) new) left (omega (arith, h.long))
         (λ j d l.
-        let lt : j < count = omega (arith, ws-long) in
+        let lt : j < count = omega (arith, ws_long) in
         let e = ap rank_of_waiting (get_or-take count rows j d lt) in
         let r = taken.least (λ k d' a b. h.waiting.order k d' a (omega (arith, all_held))) j d (omega (arith, all_held)) in
         omega arith))
 
-    pub taken-inside : w.item < h.size
-    taken-inside = waits-inside h.size h.keys h.inside w.item w.key (took ws h.keys tallies w (take (count - 1) new) left)
+    pub taken_inside : w.item < h.size
+    taken_inside = waits_inside h.size h.keys h.inside w.item w.key (took ws h.keys tallies w (take (count - 1) new) left)
 
-    pub taken-tallies : (m : ℕ) → m ≡ count - 1 → Tallies (take m new) (set h.keys w.item None) × (length (take m new) ≡ m)
-    taken-tallies m e =
+    pub taken_tallies : (m : ℕ) → m ≡ count - 1 → Tallies (take m new) (set h.keys w.item None) × (length (take m new) ≡ m)
+    taken_tallies m e =
         let s : IsPermutation ws (w ∷ take m new) = subst (λ n. IsPermutation ws (w ∷ take n new)) (sym e) left in
-        (tallies-taken ws h.keys tallies w (take m new) s, omega (arith, length_permutation ws (w ∷ take m new) s, ws-long))
+        (tallies_taken ws h.keys tallies w (take m new) s, omega (arith, length_permutation ws (w ∷ take m new) s, ws_long))
 
 -- all keys were taken away
-pub all-idle : (n m : ℕ) (ks : List (Option ℕ)) → Tallies [] ks → n ≤ length ks → m ≡ n → take n ks ≡ idle m
-all-idle n m ks t le e =
+pub all_idle : (n m : ℕ) (ks : List (Option ℕ)) → Tallies [] ks → n ≤ length ks → m ≡ n → take n ks ≡ idle m
+all_idle n m ks t le e =
     let long = length-take-le n ks le in
     same_lists (take n ks) (idle m) (long ∙ sym (length-replicate m nothing ∙ e))
     (λ k d lt.
     let lt' : k < n = omega arith in
     let lt'' : k < m = omega arith in
-    get_or-take n ks k d lt' ∙ get_or_default ks k d None (omega arith) ∙ none-wait ks t k ∙ sym (get_or-replicate m k None d lt''))
+    get_or-take n ks k d lt' ∙ get_or_default ks k d None (omega arith) ∙ none_wait ks t k ∙ sym (get_or-replicate m k None d lt''))
 
-pub none-idle : (n i : ℕ) → get_or (idle n) i None ≡ None
-none-idle n i = ⊎_elim (λ lt. get_or-replicate n i None None lt) (λ le. get_or_past (idle n) i None (omega (arith, length-replicate n nothing))) (cases_lt i n)
+pub none_idle : (n i : ℕ) → get_or (idle n) i None ≡ None
+none_idle n i = ⊎_elim (λ lt. get_or-replicate n i None None lt) (λ le. get_or_past (idle n) i None (omega (arith, length-replicate n nothing))) (cases_lt i n)
 
 pub idle_code : (n i : ℕ) → 0 ≡ code (get_or (idle n) i None)
-idle_code n i = sym (ap code (none-idle n i))
+idle_code n i = sym (ap code (none_idle n i))
 
 -- how many items a line has
 pub size_is : (n : ℕ) → min n most_items ≡ size_for n

@@ -34,9 +34,9 @@ module _ {X : Type 0} (f : X → List ℕ) where
       rows_then bs g at n (a + 1) (λ i x y. h i (omega arith) (omega arith)) ∙ ap (λ k. flat_map f (map g (range_with_len (a + 1) n)) ++ drop (at k) bs) m in
       h a (omega arith) (omega arith) ∙ ap (λ l. f (g a) ++ l) r ∙ sym (append_assoc (f (g a)) (flat_map f (map g (range_with_len (a + 1) n))) (drop (at (a + suc n)) bs))
 
-  pub length-joined : (w : ℕ) (xs : List X) → All (λ x. length (f x) ≡ w) xs → length (flat_map f xs) ≡ w * length xs
-  length-joined w [] h = sym (mul-zero w)
-  length-joined w (x ∷ xs) h = omega (arith, length-append (f x) (flat_map f xs), length-joined w xs h.1, h.0, mul-suc w (length xs))
+  pub length_joined : (w : ℕ) (xs : List X) → All (λ x. length (f x) ≡ w) xs → length (flat_map f xs) ≡ w * length xs
+  length_joined w [] h = sym (mul-zero w)
+  length_joined w (x ∷ xs) h = omega (arith, length-append (f x) (flat_map f xs), length_joined w xs h.1, h.0, mul-suc w (length xs))
 
   -- what stands before a row is as long as its rows, and what stands after it follows it
   pub row_in : (w : ℕ) (pre tail : List ℕ) (base : ℕ) (xs : List X) (i : ℕ) (d : X) → length pre ≡ base → All (λ x. length (f x) ≡ w) xs → i < length xs → (rest : List ℕ) × (drop (base + w * i) (pre ++ (flat_map f xs ++ tail)) ≡ f (get_or xs i d) ++ rest)
@@ -49,6 +49,6 @@ module _ {X : Type 0} (f : X → List ℕ) where
       let t : pre ++ ((f x ++ flat_map f xs) ++ tail) ≡ (pre ++ f x) ++ (flat_map f xs ++ tail) = simp append_assoc in
       (r.0, ap (λ k. drop k (pre ++ ((f x ++ flat_map f xs) ++ tail))) m ∙ ap (drop (base + w + w * i)) t ∙ r.1)
 
-pub all-rows : {X : Type 0} (P : X → Type 0) (g : ℕ → X) (n a : ℕ) → ((i : ℕ) → a ≤ i → i < a + n → P (g i)) → All P (map g (range_with_len a n))
-all-rows P g zero a h = tt
-all-rows P g (suc n) a h = (h a (omega arith) (omega arith), all-rows P g n (a + 1) (λ i x y. h i (omega arith) (omega arith)))
+pub all_rows : {X : Type 0} (P : X → Type 0) (g : ℕ → X) (n a : ℕ) → ((i : ℕ) → a ≤ i → i < a + n → P (g i)) → All P (map g (range_with_len a n))
+all_rows P g zero a h = tt
+all_rows P g (suc n) a h = (h a (omega arith) (omega arith), all_rows P g n (a + 1) (λ i x y. h i (omega arith) (omega arith)))

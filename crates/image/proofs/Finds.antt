@@ -9,7 +9,7 @@ use Rattle.timetable.specs.declared.refusal.Refusal.TheVariants.{CutOff, NotDue,
 use Rattle.image.specs.declared.fault.Part.{Part}
 use Rattle.image.specs.declared.fault.Part.TheVariants.{Heading, Quays, Entries, End}
 use Rattle.image.specs.Checks.{Check, unless, up_to, fault, frame, heading, zero_byte, quay, name_byte, ends, from_before, sailing, rhythm, keeps, counts, places_to, series, ending, printed_check, clock_check}
-use Rattle.image.specs.Records.{number_at, quay-at, entry_at, quays_in, entries_in}
+use Rattle.image.specs.Records.{number_at, quay_start, entry_at, quays_in, entries_in}
 use Rattle.timetable.specs.Refusals.{number_of}
 use Rattle.image.specs.Faults.{Before, Is, Not, FrameWrong, SomeRow, HeadingWrong, QuayWrong, EndsWrong, SailingWrong, SeriesLeaving, RhythmWrong, CountsWrong, SeriesWrong, PrintedWrong, ClockWrong, First, Told}
 use Rattle.timetable.proofs.Numbers.{number_below}
@@ -17,8 +17,8 @@ use Rattle.timetable.proofs.Numbers.{number_below}
 abbrev weight : Fault → ℕ
 weight g = 64 * g.byte + number_of g.refusal
 
-before-from : (e g : Fault) → weight e ≤ weight g → Before e g
-before-from e g h = record { byte_order = omega (arith, number_below e.refusal, number_below g.refusal); number_order = λ s. omega arith }
+before_from : (e g : Fault) → weight e ≤ weight g → Before e g
+before_from e g h = record { byte_order = omega (arith, number_below e.refusal, number_below g.refusal); number_order = λ s. omega arith }
 
 -- the check r finds the first of the faults W, which stand from lo up to hi
 pub record Finds (r : Check) (W : Fault → Type 0) (lo hi : ℕ) : Type 0 where
@@ -47,9 +47,9 @@ leaf false f P lo hi so else-so l h = record {
   single = λ e g w v x. w.1 ∙ sym v.1;
 }
 
-apart-single : (W V : Fault → Type 0) (lo mid hi : ℕ) → ((g : Fault) → W g → weight g < mid) → ((g : Fault) → V g → mid ≤ weight g) → ((e g : Fault) → W e → W g → weight e ≡ weight g → e ≡ g) → ((e g : Fault) → V e → V g → weight e ≡ weight g → e ≡ g)
+apart_single : (W V : Fault → Type 0) (lo mid hi : ℕ) → ((g : Fault) → W g → weight g < mid) → ((g : Fault) → V g → mid ≤ weight g) → ((e g : Fault) → W e → W g → weight e ≡ weight g → e ≡ g) → ((e g : Fault) → V e → V g → weight e ≡ weight g → e ≡ g)
     → (e g : Fault) → W e ⊎ V e → W g ⊎ V g → weight e ≡ weight g → e ≡ g
-apart-single W V lo mid hi under over a b e g x y s =
+apart_single W V lo mid hi under over a b e g x y s =
     ⊎_elim
     (λ w. ⊎_elim (λ v. a e g w v s) (λ v. absurd (omega (arith, under e w, over g v))) y)
     (λ w. ⊎_elim (λ v. absurd (omega (arith, under g v, over e w))) (λ v. b e g w v s) y)
@@ -63,7 +63,7 @@ joint (Ok x) s W V lo mid hi a b l h = record {
   least = λ e x g w. ⊎_elim (λ p. absurd (a.clear refl g p)) (λ p. b.least e x g p) w;
   from_lo = λ g w. ⊎_elim (λ p. a.from_lo g p) (λ p. omega (arith, b.from_lo g p)) w;
   to_hi = λ g w. ⊎_elim (λ p. omega (arith, a.to_hi g p)) (λ p. b.to_hi g p) w;
-  single = apart-single W V lo mid hi a.to_hi b.from_lo a.single b.single;
+  single = apart_single W V lo mid hi a.to_hi b.from_lo a.single b.single;
 }
 joint (Err f) s W V lo mid hi a b l h = record {
   clear = λ e g w. let z : ◌≡◌ {A = ℕ} 0 1 = cc in omega arith;
@@ -71,7 +71,7 @@ joint (Err f) s W V lo mid hi a b l h = record {
   least = λ e x g w. ⊎_elim (λ p. a.least e x g p) (λ p. omega (arith, b.from_lo g p, a.to_hi e (a.here e x))) w;
   from_lo = λ g w. ⊎_elim (λ p. a.from_lo g p) (λ p. omega (arith, b.from_lo g p)) w;
   to_hi = λ g w. ⊎_elim (λ p. omega (arith, a.to_hi g p)) (λ p. b.to_hi g p) w;
-  single = apart-single W V lo mid hi a.to_hi b.from_lo a.single b.single;
+  single = apart_single W V lo mid hi a.to_hi b.from_lo a.single b.single;
 }
 
 pub wider : (r : Check) (W : Fault → Type 0) (lo hi low high : ℕ) → low ≤ lo → hi ≤ high → Finds r W lo hi → Finds r W low high
@@ -102,17 +102,17 @@ rows f W at up h (suc n) =
           (joint (up_to f n) (f n) (SomeRow n W) (W n) (at 0) (at n) (at (suc n)) r.1 (h n) r.0 (up n)),
     )
 
-pub first-from : (r : Check) (W : Fault → Type 0) (lo hi : ℕ) → Finds r W lo hi → (e : Fault) → r ≡ Err e → First W e
-first-from r W lo hi a e x = record { wrong = a.here e x; first = λ g w. before-from e g (a.least e x g w) }
+pub first_from : (r : Check) (W : Fault → Type 0) (lo hi : ℕ) → Finds r W lo hi → (e : Fault) → r ≡ Err e → First W e
+first_from r W lo hi a e x = record { wrong = a.here e x; first = λ g w. before_from e g (a.least e x g w) }
 
-weight-from : (e g : Fault) → Before e g → weight e ≤ weight g
-weight-from e g h = ⊎_elim (λ same. omega (arith, h.number_order same)) (λ other. omega (arith, h.byte_order, number_below e.refusal, number_below g.refusal)) (cases_eq e.byte g.byte)
+weight_from_lem : (e g : Fault) → Before e g → weight e ≤ weight g
+weight_from_lem e g h = ⊎_elim (λ same. omega (arith, h.number_order same)) (λ other. omega (arith, h.byte_order, number_below e.refusal, number_below g.refusal)) (cases_eq e.byte g.byte)
 
 pub error_from : (r : Check) (W : Fault → Type 0) (lo hi : ℕ) → Finds r W lo hi → (e : Fault) → First W e → r ≡ Err e
 error_from (Ok x) W lo hi a e h = absurd (a.clear refl e h.wrong)
 error_from (Err f) W lo hi a e h =
     let w = a.here f refl in
-    ap Err (a.single f e w h.wrong (omega (arith, a.least f refl e h.wrong, weight-from e f (h.first f w))))
+    ap Err (a.single f e w h.wrong (omega (arith, a.least f refl e h.wrong, weight_from_lem e f (h.first f w))))
 
 frame_finds : (bs : List ℕ) (at long kind : ℕ) (p : Part) (n : ℕ) → Finds (frame bs at long kind p n) (FrameWrong bs at long kind p n) (64 * at) (64 * (at + 4))
 frame_finds bs at long kind p n =
@@ -142,12 +142,12 @@ heading_finds bs kind most =
     (omega arith) (omega arith))
     (omega arith) (omega arith)
 
-quay_finds : (bs : List ℕ) (row : ℕ) → Finds (quay bs row) (QuayWrong bs row) (64 * quay-at row) (64 * quay-at (suc row))
+quay_finds : (bs : List ℕ) (row : ℕ) → Finds (quay bs row) (QuayWrong bs row) (64 * quay_start row) (64 * quay_start (suc row))
 quay_finds bs row =
-    let at = quay-at row in
+    let at = quay_start row in
     let name = rows (name_byte bs row) (λ i. Is (fault OutOfLimits Quays row (at + 6 + i)) ((get_or bs (at + 6 + i) 0 < 32) ⊎ (126 < get_or bs (at + 6 + i) 0))) (λ i. 64 * (at + 6 + i)) (λ i. omega arith)
     (λ i. field (leb 32 (get_or bs (at + 6 + i) 0) && leb (get_or bs (at + 6 + i) 0) 126) OutOfLimits Quays row (at + 6 + i) ((get_or bs (at + 6 + i) 0 < 32) ⊎ (126 < get_or bs (at + 6 + i) 0)) (λ a b. grind (arith, nat_tests, a, b)) (λ a. grind (arith, nat_tests, a)) (at + 6 + suc i) (omega arith)) 10 in
-    joint _ _ _ _ (64 * at) (64 * (at + 6 + 0)) (64 * quay-at (suc row))
+    joint _ _ _ _ (64 * at) (64 * (at + 6 + 0)) (64 * quay_start (suc row))
     (joint _ _ _ _ (64 * at) (64 * (at + 4)) (64 * (at + 6 + 0)) (frame_finds bs at 14 3 Quays row)
     (field (leb (number_at bs (at + 4)) 1439) OutOfLimits Quays row (at + 4) (1439 < number_at bs (at + 4)) (λ a b. grind (arith, nat_tests, a, b)) (λ a. grind (arith, nat_tests, a)) (at + 6 + 0) (omega arith))
     (omega arith) (omega arith))
@@ -184,8 +184,8 @@ rhythm_finds bs row at =
     (field (leb 1 (number_at bs (at + 14)) && leb (number_at bs (at + 14)) 1439) OutOfLimits Entries row (at + 14) ((number_at bs (at + 14) < 1) ⊎ (1439 < number_at bs (at + 14))) (λ a b. grind (arith, nat_tests, a, b)) (λ a. grind (arith, nat_tests, a)) (at + 16) (omega arith))
     (omega arith) (omega arith)
 
-keeps-not : (run first period count before : ℕ) → keeps run first period count before ≡ true → SeriesLeaving run first period count before → ⊥
-keeps-not run first period count before a b = grind (arith, nat_tests, a, b)
+keeps_not : (run first period count before : ℕ) → keeps run first period count before ≡ true → SeriesLeaving run first period count before → ⊥
+keeps_not run first period count before a b = grind (arith, nat_tests, a, b)
 
 keeps_else : (run first period count before : ℕ) → keeps run first period count before ≡ false → SeriesLeaving run first period count before
 keeps_else run first period count before a = grind (arith, nat_tests, a)
@@ -196,7 +196,7 @@ counts_finds bs row at before =
     (leaf (leb 1 (number_at bs (at + 16)) && leb (number_at bs (at + 16)) 1440) (fault OutOfLimits Entries row (at + 16)) ((number_at bs (at + 16) < 1) ⊎ (1440 < number_at bs (at + 16))) (64 * (at + 16)) (64 * (at + 16) + 4) (λ a b. grind (arith, nat_tests, a, b)) (λ a. grind (arith, nat_tests, a)) (omega arith) (omega arith))
     (joint _ _ _ _ (64 * (at + 16) + 4) (64 * (at + 18)) (64 * (at + 20))
     (leaf (keeps (number_at bs (at + 4)) (number_at bs (at + 12)) (number_at bs (at + 14)) (number_at bs (at + 16)) before) (fault SeriesLeaves Entries row (at + 16)) (SeriesLeaving (number_at bs (at + 4)) (number_at bs (at + 12)) (number_at bs (at + 14)) (number_at bs (at + 16)) before) (64 * (at + 16) + 4) (64 * (at + 18))
-    (keeps-not (number_at bs (at + 4)) (number_at bs (at + 12)) (number_at bs (at + 14)) (number_at bs (at + 16)) before) (keeps_else (number_at bs (at + 4)) (number_at bs (at + 12)) (number_at bs (at + 14)) (number_at bs (at + 16)) before) (omega arith) (omega arith))
+    (keeps_not (number_at bs (at + 4)) (number_at bs (at + 12)) (number_at bs (at + 14)) (number_at bs (at + 16)) before) (keeps_else (number_at bs (at + 4)) (number_at bs (at + 12)) (number_at bs (at + 14)) (number_at bs (at + 16)) before) (omega arith) (omega arith))
     (field (leb (number_at bs (at + 18)) 1439) OutOfLimits Entries row (at + 18) (1439 < number_at bs (at + 18)) (λ a b. grind (arith, nat_tests, a, b)) (λ a. grind (arith, nat_tests, a)) (at + 20) (omega arith))
     (omega arith) (omega arith))
     (omega arith) (omega arith)
@@ -223,13 +223,13 @@ image_finds bs kind most wide f W h =
     let m = entries_in bs in
     let end = entry_at wide n m in
     let hi = 64 * (end + 1) in
-    let quays = rows (quay bs) (QuayWrong bs) (λ i. 64 * quay-at i) (λ i. omega arith) (quay_finds bs) n in
+    let quays = rows (quay bs) (QuayWrong bs) (λ i. 64 * quay_start i) (λ i. omega arith) (quay_finds bs) n in
     let entries = rows f W (λ i. 64 * entry_at wide n i) (λ i. omega (arith, mul-suc wide i)) h m in
-    let start : entry_at wide n 0 ≡ quay-at n = omega (arith, mul-zero wide) in
-    let later : quay-at n ≤ end = omega (arith, entries.0, start) in
-    joint _ _ _ _ 0 (64 * quay-at 0) hi (heading_finds bs kind most)
-    (joint _ _ _ _ (64 * quay-at 0) (64 * quay-at n) hi quays.1
-    (joint _ _ _ _ (64 * quay-at n) (64 * end) hi (wider _ _ (64 * entry_at wide n 0) (64 * end) _ _ (omega arith) (omega arith) entries.1)
+    let start : entry_at wide n 0 ≡ quay_start n = omega (arith, mul-zero wide) in
+    let later : quay_start n ≤ end = omega (arith, entries.0, start) in
+    joint _ _ _ _ 0 (64 * quay_start 0) hi (heading_finds bs kind most)
+    (joint _ _ _ _ (64 * quay_start 0) (64 * quay_start n) hi quays.1
+    (joint _ _ _ _ (64 * quay_start n) (64 * end) hi (wider _ _ (64 * entry_at wide n 0) (64 * end) _ _ (omega arith) (omega arith) entries.1)
     (field (eqb (length bs) end) BytesFollow End 0 end (Not (length bs ≡ end)) (λ a b. b (grind (arith, nat_tests, a))) (λ a b. grind (arith, nat_tests, a, b)) (end + 1) (omega arith))
     (omega arith) (omega arith))
     (omega (arith, quays.0)) (omega arith))
@@ -241,8 +241,8 @@ printed_finds bs = image_finds bs 1 3072 16 (sailing bs (quays_in bs)) (SailingW
 clock_finds : (bs : List ℕ) → Finds (clock_check bs) (ClockWrong bs) 0 (64 * (entry_at 20 (quays_in bs) (entries_in bs) + 1))
 clock_finds bs = image_finds bs 2 512 20 (series bs (quays_in bs)) (SeriesWrong bs (quays_in bs)) (series_finds bs (quays_in bs))
 
-pub printed-first : (bs : List ℕ) (e : Fault) → Told (printed_check bs) (PrintedWrong bs) e
-printed-first bs e = (first-from _ _ _ _ (printed_finds bs) e, error_from _ _ _ _ (printed_finds bs) e)
+pub printed_first : (bs : List ℕ) (e : Fault) → Told (printed_check bs) (PrintedWrong bs) e
+printed_first bs e = (first_from _ _ _ _ (printed_finds bs) e, error_from _ _ _ _ (printed_finds bs) e)
 
 pub clock_first : (bs : List ℕ) (e : Fault) → Told (clock_check bs) (ClockWrong bs) e
-clock_first bs e = (first-from _ _ _ _ (clock_finds bs) e, error_from _ _ _ _ (clock_finds bs) e)
+clock_first bs e = (first_from _ _ _ _ (clock_finds bs) e, error_from _ _ _ _ (clock_finds bs) e)

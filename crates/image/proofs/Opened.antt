@@ -7,18 +7,18 @@ use Rattle.image.specs.Meanings.{printed, clock_face}
 use Rattle.image.specs.Names.{names_of, names_in}
 use Rattle.image.specs.Openings.{OpensPrinted, OpensClock, blank_image}
 use Rattle.image.proofs.Contained.{Small}
-use Rattle.image.proofs.Exact.{printed-exact, clock_exact}
-use Rattle.image.proofs.Held.{printed-quays, clock_quays}
-use Rattle.image.proofs.Same.{printed-same, clock_same}
+use Rattle.image.proofs.Exact.{printed_exact, clock_exact}
+use Rattle.image.proofs.Held.{printed_quays, clock_quays}
+use Rattle.image.proofs.Same.{printed_same, clock_same}
 
 module _ (bs : List ℕ) (small : Small bs) where
   pub printed_opens : (cs : List ℕ) → cs ≡ cond (is_ok (printed_check bs)) bs (blank_image 1) → OpensPrinted bs (printed cs) (names_in cs)
   printed_opens cs e =
-      let there : PrintedOf bs → cs ≡ bs = λ c. e ∙ ap (λ b. cond b bs (blank_image 1)) ((printed-exact bs small).1 c) in
-      let gone : (PrintedOf bs → ⊥) → cs ≡ blank_image 1 = λ n. e ∙ ⊎_elim (λ y. absurd (n ((printed-exact bs small).0 y))) (λ f. ap (λ b. cond b bs (blank_image 1)) f) (cases_Bool (is_ok (printed_check bs))) in
+      let there : PrintedOf bs → cs ≡ bs = λ c. e ∙ ap (λ b. cond b bs (blank_image 1)) ((printed_exact bs small).1 c) in
+      let gone : (PrintedOf bs → ⊥) → cs ≡ blank_image 1 = λ n. e ∙ ⊎_elim (λ y. absurd (n ((printed_exact bs small).0 y))) (λ f. ap (λ b. cond b bs (blank_image 1)) f) (cases_Bool (is_ok (printed_check bs))) in
       record {
-        held = λ c. ap printed (there c) ∙ printed-same c.quays c.sailings bs c.laid;
-        named = λ c. ap names_in (there c) ∙ ap names_of (printed-quays bs c);
+        held = λ c. ap printed (there c) ∙ printed_same c.quays c.sailings bs c.laid;
+        named = λ c. ap names_in (there c) ∙ ap names_of (printed_quays bs c);
         other = λ n. ap printed (gone n);
         nameless = λ n. ap names_in (gone n);
       }

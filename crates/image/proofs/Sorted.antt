@@ -47,9 +47,9 @@ module _ {X : Type 0} (f : X → ℕ) where
   under_all q [] h = refl
   under_all q (x ∷ xs) h = omega (arith, cons_in q x xs h.0, under_all q xs h.1)
 
-  pub under-le : (q : ℕ) (xs : List X) → under q xs ≤ length xs
-  under-le q [] = omega arith
-  under-le q (x ∷ xs) = ⊎_elim (λ l. omega (arith, cons_in q x xs l, under-le q xs)) (λ l. omega (arith, cons_out q x xs l, under-le q xs)) (cases_lt (f x) q)
+  pub under_le : (q : ℕ) (xs : List X) → under q xs ≤ length xs
+  under_le q [] = omega arith
+  under_le q (x ∷ xs) = ⊎_elim (λ l. omega (arith, cons_in q x xs l, under_le q xs)) (λ l. omega (arith, cons_out q x xs l, under_le q xs)) (cases_lt (f x) q)
 
   pub under_more : (q : ℕ) (xs : List X) → under q xs ≤ under (q + 1) xs
   under_more q [] = omega arith
@@ -59,12 +59,12 @@ module _ {X : Type 0} (f : X → ℕ) where
       (λ l. ⊎_elim (λ m. omega (arith, cons_out q x xs l, cons_in (q + 1) x xs m, under_more q xs)) (λ m. omega (arith, cons_out q x xs l, cons_out (q + 1) x xs m, under_more q xs)) (cases_lt (f x) (q + 1)))
       (cases_lt (f x) q)
 
-  pub under-upto : (xs : List X) (p : ℕ) (d : X) → Sorted xs → p < length xs → under (f (get_or xs p d)) xs ≤ p
-  under-upto [] p d s l = absurd (omega arith)
-  under-upto (x ∷ xs) zero d s l = omega (arith, cons_out (f x) x xs (omega arith), under_none (f x) xs s.0)
-  under-upto (x ∷ xs) (suc p) d s l =
+  pub under_upto : (xs : List X) (p : ℕ) (d : X) → Sorted xs → p < length xs → under (f (get_or xs p d)) xs ≤ p
+  under_upto [] p d s l = absurd (omega arith)
+  under_upto (x ∷ xs) zero d s l = omega (arith, cons_out (f x) x xs (omega arith), under_none (f x) xs s.0)
+  under_upto (x ∷ xs) (suc p) d s l =
       let q = f (get_or xs p d) in
-      let r = under-upto xs p d s.1 (omega arith) in
+      let r = under_upto xs p d s.1 (omega arith) in
       ⊎_elim (λ l. omega (arith, cons_in q x xs l, r)) (λ l. omega (arith, cons_out q x xs l, r)) (cases_lt (f x) q)
 
   pub under_past : (xs : List X) (p : ℕ) (d : X) → Sorted xs → p < length xs → p < under (f (get_or xs p d) + 1) xs
@@ -77,10 +77,10 @@ module _ {X : Type 0} (f : X → ℕ) where
       omega (arith, r, cons_in q x xs (omega arith))
 
   -- the count of a row whose first part stands below and whose rest does not
-  pub under-is : (q : ℕ) (xs : List X) (d : X) (lo : ℕ) → lo ≤ length xs → ((k : ℕ) → k < lo → f (get_or xs k d) < q) → ((k : ℕ) → lo ≤ k → k < length xs → q ≤ f (get_or xs k d)) → lo ≡ under q xs
-  under-is q [] d lo l a b = omega arith
-  under-is q (x ∷ xs) d zero l a b = omega (arith, cons_out q x xs (b 0 (omega arith) (omega arith)), under-is q xs d 0 (omega arith) (λ k i. absurd (omega arith)) (λ k i j. b (suc k) (omega arith) (omega arith)))
-  under-is q (x ∷ xs) d (suc lo) l a b = omega (arith, cons_in q x xs (a 0 (omega arith)), under-is q xs d lo (omega arith) (λ k i. a (suc k) (omega arith)) (λ k i j. b (suc k) (omega arith) (omega arith)))
+  pub under_is : (q : ℕ) (xs : List X) (d : X) (lo : ℕ) → lo ≤ length xs → ((k : ℕ) → k < lo → f (get_or xs k d) < q) → ((k : ℕ) → lo ≤ k → k < length xs → q ≤ f (get_or xs k d)) → lo ≡ under q xs
+  under_is q [] d lo l a b = omega arith
+  under_is q (x ∷ xs) d zero l a b = omega (arith, cons_out q x xs (b 0 (omega arith) (omega arith)), under_is q xs d 0 (omega arith) (λ k i. absurd (omega arith)) (λ k i j. b (suc k) (omega arith) (omega arith)))
+  under_is q (x ∷ xs) d (suc lo) l a b = omega (arith, cons_in q x xs (a 0 (omega arith)), under_is q xs d lo (omega arith) (λ k i. a (suc k) (omega arith)) (λ k i j. b (suc k) (omega arith) (omega arith)))
 
   pub sorted_at : (xs : List X) (d : X) → Sorted xs → (i j : ℕ) → i ≤ j → j < length xs → f (get_or xs i d) ≤ f (get_or xs j d)
   sorted_at [] d s i j h l = absurd (omega arith)
@@ -89,6 +89,6 @@ module _ {X : Type 0} (f : X → ℕ) where
   sorted_at (x ∷ xs) d s (suc i) zero h l = absurd (omega arith)
   sorted_at (x ∷ xs) d s (suc i) (suc j) h l = sorted_at xs d s.1 i j (omega arith) (omega arith)
 
-pub all-joined : {X Y : Type 0} (P : Y → Type 0) (Q : X → Type 0) (f : X → List Y) → ((x : X) → Q x → All P (f x)) → (xs : List X) → All Q xs → All P (flat_map f xs)
-all-joined P Q f h [] a = tt
-all-joined P Q f h (x ∷ xs) a = All-append P (f x) (flat_map f xs) (h x a.0) (all-joined P Q f h xs a.1)
+pub all_joined : {X Y : Type 0} (P : Y → Type 0) (Q : X → Type 0) (f : X → List Y) → ((x : X) → Q x → All P (f x)) → (xs : List X) → All Q xs → All P (flat_map f xs)
+all_joined P Q f h [] a = tt
+all_joined P Q f h (x ∷ xs) a = All-append P (f x) (flat_map f xs) (h x a.0) (all_joined P Q f h xs a.1)

@@ -22,19 +22,19 @@ left_le : (xs : List ℕ) (n : ℕ) → letters_left xs n ≤ n
 left_le xs zero = omega arith
 left_le xs (suc n) = ⊎_elim (λ e. rw (eq-eqb (get_or xs n 0) 32 e) (omega (arith, left_le xs n))) (λ e. rw (ne_eqb (get_or xs n 0) 32 e) (omega arith)) (cases_eq (get_or xs n 0) 32)
 
-left-spaces : (xs : List ℕ) (n i : ℕ) → letters_left xs n ≤ i → i < n → get_or xs i 0 ≡ 32
-left-spaces xs zero i a b = absurd (omega arith)
-left-spaces xs (suc n) i a b =
+left_spaces : (xs : List ℕ) (n i : ℕ) → letters_left xs n ≤ i → i < n → get_or xs i 0 ≡ 32
+left_spaces xs zero i a b = absurd (omega arith)
+left_spaces xs (suc n) i a b =
     ⊎_elim
-    (λ e. ⊎_elim (λ s. ap (λ k. get_or xs k 0) s ∙ e) (λ o. left-spaces xs n i (rw (eq-eqb (get_or xs n 0) 32 e) at a) (omega arith)) (cases_eq i n))
+    (λ e. ⊎_elim (λ s. ap (λ k. get_or xs k 0) s ∙ e) (λ o. left_spaces xs n i (rw (eq-eqb (get_or xs n 0) 32 e) at a) (omega arith)) (cases_eq i n))
     (λ e. let c = rw (ne_eqb (get_or xs n 0) 32 e) at a in absurd (omega arith))
     (cases_eq (get_or xs n 0) 32)
 
-left-solid : (xs : List ℕ) (n i : ℕ) → letters_left xs n ≡ suc i → get_or xs i 0 ≡ 32 → ⊥
-left-solid xs zero i a b = omega arith
-left-solid xs (suc n) i a b =
+left_solid : (xs : List ℕ) (n i : ℕ) → letters_left xs n ≡ suc i → get_or xs i 0 ≡ 32 → ⊥
+left_solid xs zero i a b = omega arith
+left_solid xs (suc n) i a b =
     ⊎_elim
-    (λ e. left-solid xs n i (rw (eq-eqb (get_or xs n 0) 32 e) at a) b)
+    (λ e. left_solid xs n i (rw (eq-eqb (get_or xs n 0) 32 e) at a) b)
     (λ e. let c = rw (ne_eqb (get_or xs n 0) 32 e) at a in let s : i ≡ n = omega arith in e (ap (λ k. get_or xs k 0) (sym s) ∙ b))
     (cases_eq (get_or xs n 0) 32)
 
@@ -44,12 +44,12 @@ trims xs =
     let l : length (trimmed xs) ≡ n = simp length-take (omega (arith, left_le xs (length xs))) in
     record {
       front = ap (λ k. take k xs) (sym l);
-      spaces = λ i a b. left-spaces xs (length xs) i (omega arith) b;
-      solid = λ i e h. left-solid xs (length xs) i (sym l ∙ e) (sym (get_or-take n xs i 0 (omega arith)) ∙ h);
+      spaces = λ i a b. left_spaces xs (length xs) i (omega arith) b;
+      solid = λ i e h. left_solid xs (length xs) i (sym l ∙ e) (sym (get_or-take n xs i 0 (omega arith)) ∙ h);
     }
 
-pub name-told : (bs : List ℕ) (q : ℕ) → q < quays_in bs → asked (names_in bs) q [] NoQuay ≡ Ok (trimmed (quay_at bs q).name)
-name-told bs q l =
+pub name_told : (bs : List ℕ) (q : ℕ) → q < quays_in bs → asked (names_in bs) q [] NoQuay ≡ Ok (trimmed (quay_at bs q).name)
+name_told bs q l =
     let n = length-map-range_with_len (quay_at bs) 0 (quays_in bs) in
     let m = length-map (quays_of bs) (λ x. trimmed x.name) in
     asked_in (names_in bs) q [] NoQuay (omega (arith, n, m))
@@ -59,9 +59,9 @@ pub name_untold : (bs : List ℕ) (q : ℕ) → quays_in bs ≤ q → asked (nam
 name_untold bs q l = asked_out (names_in bs) q [] NoQuay (omega (arith, length-map-range_with_len (quay_at bs) 0 (quays_in bs), length-map (quays_of bs) (λ x. trimmed x.name)))
 
 -- a name that is told is the trimmed name of the quay
-pub name-trims : (bs : List ℕ) (q : ℕ) (n : List ℕ) → asked (names_in bs) q [] NoQuay ≡ Ok n → Trims (quay_at bs q).name n
-name-trims bs q n e =
+pub name_trims : (bs : List ℕ) (q : ℕ) (n : List ℕ) → asked (names_in bs) q [] NoQuay ≡ Ok n → Trims (quay_at bs q).name n
+name_trims bs q n e =
     ⊎_elim
-    (λ l. let t = name-told bs q l in let s : trimmed (quay_at bs q).name ≡ n = cc in subst (λ ys. Trims (quay_at bs q).name ys) s (trims (quay_at bs q).name))
+    (λ l. let t = name_told bs q l in let s : trimmed (quay_at bs q).name ≡ n = cc in subst (λ ys. Trims (quay_at bs q).name ys) s (trims (quay_at bs q).name))
     (λ l. let t = name_untold bs q l in let z : ◌≡◌ {A = ℕ} 0 1 = cc in absurd (omega arith))
     (cases_lt q (quays_in bs))

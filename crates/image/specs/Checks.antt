@@ -8,7 +8,7 @@ use Rattle.image.specs.declared.fault.Kind.{Kind}
 use Rattle.image.specs.declared.fault.Kind.TheVariants.{Printed, ClockFace}
 use Rattle.image.specs.declared.fault.Part.{Part}
 use Rattle.image.specs.declared.fault.Part.TheVariants.{Heading, Quays, Entries, End}
-use Rattle.image.specs.Records.{number_at, quays_in, entries_in, quay-at, entry_at}
+use Rattle.image.specs.Records.{number_at, quays_in, entries_in, quay_start, entry_at}
 
 abbrev pub Check : Type 0
 Check = Result (Unit {0}) Fault
@@ -43,11 +43,11 @@ heading bs kind most =
 
 abbrev pub quay_head : List ℕ → ℕ → Check
 quay_head bs row =
-    result_and (frame bs (quay-at row) 14 3 Quays row)
-    (unless (nat_le (number_at bs (quay-at row + 4)) 1439) (fault OutOfLimits Quays row (quay-at row + 4)))
+    result_and (frame bs (quay_start row) 14 3 Quays row)
+    (unless (nat_le (number_at bs (quay_start row + 4)) 1439) (fault OutOfLimits Quays row (quay_start row + 4)))
 
 abbrev pub name_byte : List ℕ → ℕ → ℕ → Check
-name_byte bs row i = unless (nat_le 32 (slice_index bs (quay-at row + 6 + i)) && nat_le (slice_index bs (quay-at row + 6 + i)) 126) (fault OutOfLimits Quays row (quay-at row + 6 + i))
+name_byte bs row i = unless (nat_le 32 (slice_index bs (quay_start row + 6 + i)) && nat_le (slice_index bs (quay_start row + 6 + i)) 126) (fault OutOfLimits Quays row (quay_start row + 6 + i))
 
 abbrev pub quay : List ℕ → ℕ → Check
 quay bs row = result_and (quay_head bs row) (up_to (name_byte bs row) 10)
@@ -119,7 +119,7 @@ clock_check bs =
     (result_and (up_to (series bs (quays_in bs)) (entries_in bs))
     (ending bs (entry_at 20 (quays_in bs) (entries_in bs)))))
 
--- an image of kind 2 is judged as a clock_face image, and any other as a printed one
+-- an image of kind 2 is judged as a clock-face image, and any other as a printed one
 abbrev pub is_clock : List ℕ → Bool
 is_clock bs = nat_le 4 (length bs) && number_at bs 2 == 2
 

@@ -5,7 +5,7 @@ use Rattle.timetable.specs.declared.refusal.Refusal.TheVariants.{CutOff, NotDue,
 use Rattle.image.specs.declared.fault.Part.{Part}
 use Rattle.image.specs.declared.fault.Part.TheVariants.{Heading, Quays, Entries, End}
 use Rattle.timetable.specs.Refusals.{number_of}
-use Rattle.image.specs.Records.{number_at, quays_in, entries_in, quay-at, entry_at}
+use Rattle.image.specs.Records.{number_at, quays_in, entries_in, quay_start, entry_at}
 use Rattle.image.specs.Checks.{fault, from_before, places_to, is_clock}
 
 -- the earlier byte comes first, then the lower number
@@ -39,9 +39,9 @@ HeadingWrong bs kind most g =
 
 abbrev pub QuayWrong : List ℕ → ℕ → Fault → Type 0
 QuayWrong bs row g =
-    (FrameWrong bs (quay-at row) 14 3 Quays row g
-    ⊎ Is (fault OutOfLimits Quays row (quay-at row + 4)) (1439 < number_at bs (quay-at row + 4)) g)
-    ⊎ SomeRow 10 (λ i. Is (fault OutOfLimits Quays row (quay-at row + 6 + i)) ((slice_index bs (quay-at row + 6 + i) < 32) ⊎ (126 < slice_index bs (quay-at row + 6 + i)))) g
+    (FrameWrong bs (quay_start row) 14 3 Quays row g
+    ⊎ Is (fault OutOfLimits Quays row (quay_start row + 4)) (1439 < number_at bs (quay_start row + 4)) g)
+    ⊎ SomeRow 10 (λ i. Is (fault OutOfLimits Quays row (quay_start row + 6 + i)) ((slice_index bs (quay_start row + 6 + i) < 32) ⊎ (126 < slice_index bs (quay_start row + 6 + i)))) g
 
 -- the quays of an entry
 abbrev pub EndsWrong : List ℕ → ℕ → ℕ → ℕ → ℕ → Fault → Type 0

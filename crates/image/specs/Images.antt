@@ -16,7 +16,7 @@ pub record PrintedOf (bs : List ℕ) : Type 0 where
   pub kept : PrintedKept quays sailings
   pub laid : bs ≡ layout 1 sailing_bytes quays sailings
 
--- the bytes are a clock_face image: those of quays and series within the limits
+-- the bytes are a clock-face image: those of quays and series within the limits
 pub record ClockOf (bs : List ℕ) : Type 0 where
   pub quays : List Quay
   pub series : List Series
@@ -30,9 +30,9 @@ Allowed bs = PrintedOf bs ⊎ ClockOf bs
 -- an answer that tells a kind exactly for the allowed images of that kind
 pub record Tells (bs : List ℕ) (r : Result Kind Fault) : Type 0 where
   pub printed : r ≡ Ok Printed → PrintedOf bs
-  pub all-printed : PrintedOf bs → r ≡ Ok Printed
+  pub all_printed : PrintedOf bs → r ≡ Ok Printed
   pub clock_face : r ≡ Ok ClockFace → ClockOf bs
-  pub all-clock_face : ClockOf bs → r ≡ Ok ClockFace
+  pub all_clock_face : ClockOf bs → r ≡ Ok ClockFace
 
 -- bytes are the image of one content at most
 abbrev pub OneContent : Type 0

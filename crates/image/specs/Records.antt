@@ -16,15 +16,15 @@ abbrev pub entries_in : List ℕ → ℕ
 entries_in bs = number_at bs 6
 
 -- where the record of a quay begins: the heading and each quay take 16 bytes
-abbrev pub quay-at : ℕ → ℕ
-quay-at row = 16 * (1 + row)
+abbrev pub quay_start : ℕ → ℕ
+quay_start row = 16 * (1 + row)
 
 -- where the record of an entry begins, where each is so wide
 abbrev pub entry_at : ℕ → ℕ → ℕ → ℕ
 entry_at wide quays row = 16 * (1 + quays) + wide * row
 
 abbrev pub quay_at : List ℕ → ℕ → Quay
-quay_at bs q = record { change = number_at bs (quay-at q + 4); name = take 10 (drop (quay-at q + 6) bs) }
+quay_at bs q = record { change = number_at bs (quay_start q + 4); name = take 10 (drop (quay_start q + 6) bs) }
 
 abbrev pub sailing_at : List ℕ → ℕ → Sailing
 sailing_at bs at = record { run = number_at bs (at + 4); leg = number_at bs (at + 6); from = number_at bs (at + 8); to = number_at bs (at + 10); dep = number_at bs (at + 12); arr = number_at bs (at + 14) }

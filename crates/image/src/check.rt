@@ -18,7 +18,7 @@ pub fn check_printed(bytes: &[u8]) -> Result<(), Fault>
     judge_printed(bytes)
 }
 
-// Passes exactly the images of clock_face books, and else tells the first thing that is wrong with the bytes as such an image.
+// Passes exactly the images of clock-face books, and else tells the first thing that is wrong with the bytes as such an image.
 pub fn check_clock_face(bytes: &[u8]) -> Result<(), Fault>
     ensures value { result ≡ clock_check bytes.now }
     ensures exact { Decides (is_ok result) (ClockOf bytes.now) }

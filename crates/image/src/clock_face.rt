@@ -1,4 +1,4 @@
-//! Images of clock_face books: a record for each series of sailings.
+//! Images of clock-face books: a record for each series of sailings.
 ghost use Rattle.std.specs.Prelude.{◌≡◌, ◌+◌, ◌<◌, ◌≤◌, length};
 ghost use Rattle.image.specs.Checks.{rhythm, keeps, counts, series, places_to, up_to, clock_check};
 

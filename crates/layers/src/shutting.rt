@@ -2,7 +2,7 @@
 ghost use Rattle.std.specs.Prelude.{◌≡◌, List, [], ◌∷◌, ◌++◌, length, is_ok, if◌then◌else◌, nat_lt};
 ghost use Rattle.timetable.specs.Timetables.{Timetable, Lawful};
 ghost use Rattle.timetable.specs.Hiding.{hide};
-ghost use Rattle.timetable.proofs.HidingLemmas.{hide-lawful};
+ghost use Rattle.timetable.proofs.HidingLemmas.{hide_lawful};
 ghost use Rattle.tables.specs.Lists.{has, without};
 ghost use Rattle.tables.specs.Kept.{kept};
 ghost use Rattle.layers.specs.Notices.{shut_answer, open_answer, touches_shut};
@@ -84,7 +84,7 @@ impl<B: Book> Shutting<B> {
 impl<B: Book> Book for Shutting<B> {
     ghost meaning = { λ w. hide (touches_shut (kept w.quays)) (B.Book.meaning w.below) };
 
-    ghost lawful = { λ w. hide-lawful (touches_shut (kept w.quays)) (B.Book.meaning w.below) (B.Book.lawful w.below) };
+    ghost lawful = { λ w. hide_lawful (touches_shut (kept w.quays)) (B.Book.meaning w.below) (B.Book.lawful w.below) };
 
     fn quays(&self) -> u16 {
         self.below.quays()

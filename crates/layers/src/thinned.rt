@@ -2,7 +2,7 @@
 ghost use Rattle.std.specs.Prelude.{◌≡◌, ℕ, false, replicate, slice_index_or};
 ghost use Rattle.timetable.specs.Timetables.{Timetable, Lawful};
 ghost use Rattle.timetable.specs.Hiding.{hide};
-ghost use Rattle.timetable.proofs.HidingLemmas.{hide-lawful};
+ghost use Rattle.timetable.proofs.HidingLemmas.{hide_lawful};
 ghost use Rattle.thinning.specs.Dominance.{mark_of, dominated_in};
 ghost use Rattle.thinning.specs.Thinning.{marked, Keeps};
 
@@ -43,7 +43,7 @@ impl<B: Book> Thinned<B> {
 impl<B: Book> Book for Thinned<B> {
     ghost meaning = { λ w. hide (marked w.marks.at) (B.Book.meaning w.below) };
 
-    ghost lawful = { λ w. hide-lawful (marked w.marks.at) (B.Book.meaning w.below) (B.Book.lawful w.below) };
+    ghost lawful = { λ w. hide_lawful (marked w.marks.at) (B.Book.meaning w.below) (B.Book.lawful w.below) };
 
     fn quays(&self) -> u16 {
         self.below.quays()

@@ -2,7 +2,7 @@
 ghost use Rattle.std.specs.Prelude.{◌≡◌, List, [], ◌∷◌, ◌++◌, length, is_ok, if◌then◌else◌};
 ghost use Rattle.timetable.specs.Timetables.{Timetable, Lawful};
 ghost use Rattle.timetable.specs.Hiding.{hide};
-ghost use Rattle.timetable.proofs.HidingLemmas.{hide-lawful};
+ghost use Rattle.timetable.proofs.HidingLemmas.{hide_lawful};
 ghost use Rattle.tables.specs.Lists.{has, without};
 ghost use Rattle.tables.specs.Kept.{kept};
 ghost use Rattle.layers.specs.Notices.{withhold_answer, release_answer, of_withheld};
@@ -71,7 +71,7 @@ impl<B: Book> Withholding<B> {
 impl<B: Book> Book for Withholding<B> {
     ghost meaning = { λ w. hide (of_withheld (kept w.runs)) (B.Book.meaning w.below) };
 
-    ghost lawful = { λ w. hide-lawful (of_withheld (kept w.runs)) (B.Book.meaning w.below) (B.Book.lawful w.below) };
+    ghost lawful = { λ w. hide_lawful (of_withheld (kept w.runs)) (B.Book.meaning w.below) (B.Book.lawful w.below) };
 
     fn quays(&self) -> u16 {
         self.below.quays()

@@ -11,25 +11,25 @@ use Rattle.timetable.specs.Timetables.{Within, Lawful, span_at}
 use Rattle.timetable.specs.Answers.{span_of}
 use Rattle.layers_tests.specs.Written.{written, short, right, all_right, fair}
 
-short-at : (xs : List ℕ) (k : ℕ) → short xs ≡ true → slice_index xs k < day
-short-at [] k h = omega arith
-short-at (x ∷ xs) zero h = ltb-true x day (and_parts (nat_lt x day) (short xs) h).0
-short-at (x ∷ xs) (suc k) h = short-at xs k (and_parts (nat_lt x day) (short xs) h).1
+short_at : (xs : List ℕ) (k : ℕ) → short xs ≡ true → slice_index xs k < day
+short_at [] k h = omega arith
+short_at (x ∷ xs) zero h = ltb-true x day (and_parts (nat_lt x day) (short xs) h).0
+short_at (x ∷ xs) (suc k) h = short_at xs k (and_parts (nat_lt x day) (short xs) h).1
 
-right-some : (n : ℕ) (o : Option Sailing) (s : Sailing) → right n o ≡ true → o ≡ Some s → Within n s
-right-some n None s h e = let z : ◌≡◌ {A = ℕ} 0 1 = cc in absurd (omega arith)
-right-some n (Some r) s h e =
+right_some : (n : ℕ) (o : Option Sailing) (s : Sailing) → right n o ≡ true → o ≡ Some s → Within n s
+right_some n None s h e = let z : ◌≡◌ {A = ℕ} 0 1 = cc in absurd (omega arith)
+right_some n (Some r) s h e =
     let same : r ≡ s = cc in
     let (a, h₁) = and_parts (nat_lt r.from n) _ h in
     let (b, h₂) = and_parts (nat_lt r.to n) _ h₁ in
     let (c, h₃) = and_parts (not (r.to == r.from)) _ h₂ in
     let (d, f) = and_parts (nat_lt r.dep day) _ h₃ in
-    subst (Within n) same (record { from-quay = ltb-true _ _ a; to-quay = ltb-true _ _ b; apart = eqb-false _ _ (not-true _ c); dep-day = ltb-true _ _ d; arr-day = ltb-true _ _ f })
+    subst (Within n) same (record { from_quay = ltb-true _ _ a; to_quay = ltb-true _ _ b; apart = eqb-false _ _ (not-true _ c); dep_day = ltb-true _ _ d; arr_day = ltb-true _ _ f })
 
-right-at : (n : ℕ) (xs : List (Option Sailing)) (p : ℕ) (s : Sailing) → all_right n xs ≡ true → slice_index_or xs p None ≡ Some s → Within n s
-right-at n [] p s h e = let z : ◌≡◌ {A = ℕ} 0 1 = cc in absurd (omega arith)
-right-at n (x ∷ xs) zero s h e = right-some n x s (and_parts (right n x) (all_right n xs) h).0 e
-right-at n (x ∷ xs) (suc p) s h e = right-at n xs p s (and_parts (right n x) (all_right n xs) h).1 e
+right_at : (n : ℕ) (xs : List (Option Sailing)) (p : ℕ) (s : Sailing) → all_right n xs ≡ true → slice_index_or xs p None ≡ Some s → Within n s
+right_at n [] p s h e = let z : ◌≡◌ {A = ℕ} 0 1 = cc in absurd (omega arith)
+right_at n (x ∷ xs) zero s h e = right_some n x s (and_parts (right n x) (all_right n xs) h).0 e
+right_at n (x ∷ xs) (suc p) s h e = right_at n xs p s (and_parts (right n x) (all_right n xs) h).1 e
 
 stands : (places : List (Option Sailing)) (p : ℕ) (s : Sailing) → slice_index_or places p None ≡ Some s → p < length places
 stands places p s e = ⊎_elim (λ lt. lt)
@@ -45,32 +45,32 @@ span_in changes places k h = get_or-replicate (length changes) k (whole (length 
 span_out : (changes : List ℕ) (places : List (Option Sailing)) (k : ℕ) → length changes ≤ k → span_at (written changes places) k ≡ whole 0
 span_out changes places k h = get_or_past (replicate (length changes) (whole (length places))) k (whole 0) (rw length-replicate h)
 
-span-order : (changes : List ℕ) (places : List (Option Sailing)) (k : ℕ) → ((span_at (written changes places) k).start ≤ (span_at (written changes places) k).end) × ((span_at (written changes places) k).end ≤ length places)
-span-order changes places k = ⊎_elim
+span_order : (changes : List ℕ) (places : List (Option Sailing)) (k : ℕ) → ((span_at (written changes places) k).start ≤ (span_at (written changes places) k).end) × ((span_at (written changes places) k).end ≤ length places)
+span_order changes places k = ⊎_elim
     (λ lt. subst (λ (x : Span). (x.start ≤ x.end) × (x.end ≤ length places)) (sym (span_in changes places k lt)) (omega arith, omega arith))
     (λ le. subst (λ (x : Span). (x.start ≤ x.end) × (x.end ≤ length places)) (sym (span_out changes places k le)) (omega arith, omega arith))
     (cases_lt k (length changes))
 
-pub fair-lawful : (changes : List ℕ) (places : List (Option Sailing)) → fair changes places ≡ true → Lawful (written changes places)
-fair-lawful changes places h =
+pub fair_lawful : (changes : List ℕ) (places : List (Option Sailing)) → fair changes places ≡ true → Lawful (written changes places)
+fair_lawful changes places h =
     let (z, h₀) = and_parts (nat_le 1 (length changes)) _ h in
     let (a, h₁) = and_parts (nat_le (length changes) 256) _ h₀ in
     let (b, h₂) = and_parts (nat_le (length places) 3072) _ h₁ in
     let (c, d) = and_parts (short changes) _ h₂ in
     record {
-      some-quay = leb-true _ _ z;
-      few-quays = leb-true _ _ a;
-      few-places = leb-true _ _ b;
+      some_quay = leb-true _ _ z;
+      few_quays = leb-true _ _ a;
+      few_places = leb-true _ _ b;
       as_many_spans = length-replicate (length changes) (whole (length places));
-      change-day = λ k. short-at changes k c;
-      within = λ p s e. right-at (length changes) places p s d e;
-      span-order = λ k. (span-order changes places k).0;
-      span-end = λ k. (span-order changes places k).1;
-      spanned = λ p s e. subst (λ (x : Span). (x.start ≤ p) × (p < x.end)) (sym (span_in changes places s.from (right-at (length changes) places p s d e).from-quay)) (omega arith, stands places p s e);
+      change_day = λ k. short_at changes k c;
+      within = λ p s e. right_at (length changes) places p s d e;
+      span_order = λ k. (span_order changes places k).0;
+      span_end = λ k. (span_order changes places k).1;
+      spanned = λ p s e. subst (λ (x : Span). (x.start ≤ p) × (p < x.end)) (sym (span_in changes places s.from (right_at (length changes) places p s d e).from_quay)) (omega arith, stands places p s e);
     }
 
-pub span-told : (changes : List ℕ) (places : List (Option Sailing)) (k : ℕ) → k < length changes → Ok (whole (length places)) ≡ span_of (written changes places) k
-span-told changes places k h =
+pub span_told : (changes : List ℕ) (places : List (Option Sailing)) (k : ℕ) → k < length changes → Ok (whole (length places)) ≡ span_of (written changes places) k
+span_told changes places k h =
     let n = length-replicate (length changes) (whole (length places)) in
     ap Ok (sym (span_in changes places k h)) ∙ sym (cond-true _ (Ok (span_at (written changes places) k)) (Err NoQuay) (lt-ltb k _ (omega arith)))
 

@@ -1,7 +1,7 @@
 //! A book over lent rows, for tests.
 ghost use Rattle.std.specs.Prelude.{◌≡◌, true};
 ghost use Rattle.layers_tests.specs.Written.{written, short, right, all_right, fair};
-ghost use Rattle.layers_tests.specs.Fair.{fair-lawful};
+ghost use Rattle.layers_tests.specs.Fair.{fair_lawful};
 
 use timetable::book::Book;
 use timetable::refusal::Refusal;
@@ -80,7 +80,7 @@ fn is_fair(changes: &[u16], places: &[Option<Sailing>]) -> bool
 impl Book for Rows<'_> {
     ghost meaning = { λ b. written b.changes.now b.places.now };
 
-    ghost lawful = { λ b. fair-lawful b.changes.now b.places.now b.sound };
+    ghost lawful = { λ b. fair_lawful b.changes.now b.places.now b.sound };
 
     fn quays(&self) -> u16 {
         self.changes.len() as u16

@@ -3,19 +3,19 @@ use Rattle.std.proofs.Common.{◌≡◌, ℕ, zero, suc, ◌+◌, ◌<◌, ◌�
 use Rattle.std.specs.List.{prefix_len}
 use Rattle.std.proofs.lemmas.Bool.{cases_Bool, cond-true, cond-false}
 
-pub run-yes : (p : ℕ → Bool) (xs : List ℕ) (k : ℕ) → k < prefix_len p xs → p (get_or xs k 0) ≡ true
-run-yes p [] k h = absurd (omega arith)
-run-yes p (x ∷ xs) zero h = ⊎_elim (λ e. e) (λ e. absurd (omega (arith, cond-false (p x) (1 + prefix_len p xs) 0 e))) (cases_Bool (p x))
-run-yes p (x ∷ xs) (suc k) h =
-    ⊎_elim (λ e. run-yes p xs k (omega (arith, cond-true (p x) (1 + prefix_len p xs) 0 e)))
+pub run_yes : (p : ℕ → Bool) (xs : List ℕ) (k : ℕ) → k < prefix_len p xs → p (get_or xs k 0) ≡ true
+run_yes p [] k h = absurd (omega arith)
+run_yes p (x ∷ xs) zero h = ⊎_elim (λ e. e) (λ e. absurd (omega (arith, cond-false (p x) (1 + prefix_len p xs) 0 e))) (cases_Bool (p x))
+run_yes p (x ∷ xs) (suc k) h =
+    ⊎_elim (λ e. run_yes p xs k (omega (arith, cond-true (p x) (1 + prefix_len p xs) 0 e)))
     (λ e. absurd (omega (arith, cond-false (p x) (1 + prefix_len p xs) 0 e)))
     (cases_Bool (p x))
 
-pub run-no : (p : ℕ → Bool) (xs : List ℕ) (n : ℕ) → n ≡ prefix_len p xs → n < length xs → p (get_or xs n 0) ≡ false
-run-no p [] n e l = absurd (omega arith)
-run-no p (x ∷ xs) zero e l = ⊎_elim (λ t. absurd (omega (arith, cond-true (p x) (1 + prefix_len p xs) 0 t))) (λ t. t) (cases_Bool (p x))
-run-no p (x ∷ xs) (suc n) e l =
-    ⊎_elim (λ t. run-no p xs n (omega (arith, cond-true (p x) (1 + prefix_len p xs) 0 t)) (omega arith))
+pub run_no : (p : ℕ → Bool) (xs : List ℕ) (n : ℕ) → n ≡ prefix_len p xs → n < length xs → p (get_or xs n 0) ≡ false
+run_no p [] n e l = absurd (omega arith)
+run_no p (x ∷ xs) zero e l = ⊎_elim (λ t. absurd (omega (arith, cond-true (p x) (1 + prefix_len p xs) 0 t))) (λ t. t) (cases_Bool (p x))
+run_no p (x ∷ xs) (suc n) e l =
+    ⊎_elim (λ t. run_no p xs n (omega (arith, cond-true (p x) (1 + prefix_len p xs) 0 t)) (omega arith))
     (λ t. absurd (omega (arith, cond-false (p x) (1 + prefix_len p xs) 0 t)))
     (cases_Bool (p x))
 

@@ -5,7 +5,7 @@ use Rattle.std.proofs.lemmas.Bool.{and_parts, and_from, or_parts, or_from, ltb-t
 use Rattle.numerals.specs.declared.field.Field.{Field}
 use Rattle.numerals.specs.Digits.{is_digit, Digit, digit_run, decimal}
 use Rattle.numerals.specs.Numbers.{numeral_of, numeral_from, number_at, Numeral}
-use Rattle.numerals.proofs.Runs.{run-yes, run-no, run_is}
+use Rattle.numerals.proofs.Runs.{run_yes, run_no, run_is}
 
 -- an answer that is there came of the way that gives one
 pub opened : {X : Type 0} (b : Bool) (o : Option X) (x : X) → cond b o None ≡ Some x → (b ≡ true) × (o ≡ Some x)
@@ -16,8 +16,8 @@ pub passed : {X : Type 0} (b : Bool) (o : Option X) (x : X) → cond b None o �
 passed true o x h = let z : ◌≡◌ {A = ℕ} 0 1 = cc in absurd (omega arith)
 passed false o x h = (refl, h)
 
-pub same-field : (v n : ℕ) (f : Field) → v ≡ f.value → n ≡ f.next → Some (record { value = v; next = n }) ≡ Some f
-same-field v n f p q = λ i. Some (record { value = p i; next = q i })
+pub same_field : (v n : ℕ) (f : Field) → v ≡ f.value → n ≡ f.next → Some (record { value = v; next = n }) ≡ Some f
+same_field v n f p q = λ i. Some (record { value = p i; next = q i })
 
 pub digit_true : (b : ℕ) → is_digit b ≡ true → Digit b
 digit_true b h = let e = and_parts (leb 48 b) (leb b 57) h in (leb-true 48 b e.0, leb-true b 57 e.1)
@@ -59,10 +59,10 @@ number_tells line at f h =
       some_digit = omega arith;
       five_digits = omega arith;
       inside = omega arith;
-      digits = λ i l u. digit_true (get_or line i 0) (ap is_digit (sym (in_rest line (at + 1) i l)) ∙ run-yes is_digit bs (i - (at + 1)) (omega arith));
+      digits = λ i l u. digit_true (get_or line i 0) (ap is_digit (sym (in_rest line (at + 1) i l)) ∙ run_yes is_digit bs (i - (at + 1)) (omega arith));
       no_further = λ u.
           digit_false (get_or line f.next 0)
-          (ap is_digit (sym (in_rest line (at + 1) f.next (omega arith))) ∙ run-no is_digit bs (f.next - (at + 1)) (omega arith) (omega (arith, length-drop (at + 1) line)));
+          (ap is_digit (sym (in_rest line (at + 1) f.next (omega arith))) ∙ run_no is_digit bs (f.next - (at + 1)) (omega arith) (omega (arith, length-drop (at + 1) line)));
       worth = value ∙ ap (λ k. decimal (take k bs)) (omega arith);
       small = omega (arith, ltb-false 65535 (decimal (take n bs)) c.0);
     }
@@ -85,7 +85,7 @@ number_told line at f h =
     and_from (ltb at (length line)) (eqb (get_or line at 0) 32) (lt-ltb at (length line) (omega arith)) (eq-eqb (get_or line at 0) 32 h.space) in
     let value : decimal (take n bs) ≡ f.value = sym h.worth in
     let next : at + 1 + n ≡ f.next = omega arith in
-    let made : Some (record { value = decimal (take n bs); next = at + 1 + n }) ≡ Some f = same-field _ _ f value next in
+    let made : Some (record { value = decimal (take n bs); next = at + 1 + n }) ≡ Some f = same_field _ _ f value next in
     let there : numeral_of bs (at + 1) n ≡ Some f = cond_not few (cond_not small made) in
     cond_is starts (subst (λ k. numeral_of bs (at + 1) k ≡ Some f) (sym run) there)
   where
@@ -96,6 +96,6 @@ number_told line at f h =
     cond_not {X} {b} {o} {x} e h = rw e h
 
 -- what is read lies inside the line
-pub within-from : (o : Option Field) (n : ℕ) → ((f : Field) → o ≡ Some f → f.next ≤ n) → IfSome o (λ f. f.next ≤ n)
-within-from None n h = tt
-within-from (Some f) n h = h f refl
+pub within_from : (o : Option Field) (n : ℕ) → ((f : Field) → o ≡ Some f → f.next ≤ n) → IfSome o (λ f. f.next ≤ n)
+within_from None n h = tt
+within_from (Some f) n h = h f refl

@@ -5,14 +5,14 @@ use Rattle.std.proofs.lemmas.Bool.{and_parts, and_from, or_parts, or_from, ltb-t
 use Rattle.numerals.specs.declared.wide_field.WideField.{WideField}
 use Rattle.numerals.specs.Digits.{is_digit, digit_run, decimal}
 use Rattle.numerals.specs.Wides.{wide_of, wide_from, wide_at, WideNumeral}
-use Rattle.numerals.proofs.Runs.{run-yes, run-no, run_is}
+use Rattle.numerals.proofs.Runs.{run_yes, run_no, run_is}
 use Rattle.numerals.proofs.Standing.{opened, passed, digit_true, true_digit, digit_false, false_digit, in_rest}
 
-same-wide : (v n : ℕ) (f : WideField) → v ≡ f.value → n ≡ f.next → Some (record { value = v; next = n }) ≡ Some f
-same-wide v n f p q = λ i. Some (record { value = p i; next = q i })
+same_wide : (v n : ℕ) (f : WideField) → v ≡ f.value → n ≡ f.next → Some (record { value = v; next = n }) ≡ Some f
+same_wide v n f p q = λ i. Some (record { value = p i; next = q i })
 
-pub wide-tells : (line : List ℕ) (at : ℕ) (f : WideField) → wide_at line at ≡ Some f → WideNumeral line at f
-wide-tells line at f h =
+pub wide_tells : (line : List ℕ) (at : ℕ) (f : WideField) → wide_at line at ≡ Some f → WideNumeral line at f
+wide_tells line at f h =
     let bs = drop (at + 1) line in
     let n = digit_run bs in
     let a = opened (ltb at (length line) && eqb (get_or line at 0) 32) (wide_from bs (at + 1)) f h in
@@ -29,22 +29,22 @@ wide-tells line at f h =
     record {
       space = eqb-true (get_or line at 0) 32 starts.1;
       some_digit = omega arith;
-      ten-digits = omega arith;
+      ten_digits = omega arith;
       inside = omega arith;
-      digits = λ i l u. digit_true (get_or line i 0) (ap is_digit (sym (in_rest line (at + 1) i l)) ∙ run-yes is_digit bs (i - (at + 1)) (omega arith));
+      digits = λ i l u. digit_true (get_or line i 0) (ap is_digit (sym (in_rest line (at + 1) i l)) ∙ run_yes is_digit bs (i - (at + 1)) (omega arith));
       no_further = λ u.
           digit_false (get_or line f.next 0)
-          (ap is_digit (sym (in_rest line (at + 1) f.next (omega arith))) ∙ run-no is_digit bs (f.next - (at + 1)) (omega arith) (omega (arith, length-drop (at + 1) line)));
+          (ap is_digit (sym (in_rest line (at + 1) f.next (omega arith))) ∙ run_no is_digit bs (f.next - (at + 1)) (omega arith) (omega (arith, length-drop (at + 1) line)));
       worth = value ∙ ap (λ k. decimal (take k bs)) (omega arith);
       small = omega (arith, ltb-false 4294967295 (decimal (take n bs)) c.0);
     }
 
-pub wide-told : (line : List ℕ) (at : ℕ) (f : WideField) → WideNumeral line at f → wide_at line at ≡ Some f
-wide-told line at f h =
+pub wide_told : (line : List ℕ) (at : ℕ) (f : WideField) → WideNumeral line at f → wide_at line at ≡ Some f
+wide_told line at f h =
     let bs = drop (at + 1) line in
     let n = f.next - (at + 1) in
     let some = h.some_digit in
-    let most = h.ten-digits in
+    let most = h.ten_digits in
     let inside = h.inside in
     let long : length bs ≡ length line - (at + 1) = length-drop (at + 1) line in
     let run : digit_run bs ≡ n =
@@ -57,7 +57,7 @@ wide-told line at f h =
     and_from (ltb at (length line)) (eqb (get_or line at 0) 32) (lt-ltb at (length line) (omega arith)) (eq-eqb (get_or line at 0) 32 h.space) in
     let value : decimal (take n bs) ≡ f.value = sym h.worth in
     let next : at + 1 + n ≡ f.next = omega arith in
-    let made : Some (record { value = decimal (take n bs); next = at + 1 + n }) ≡ Some f = same-wide _ _ f value next in
+    let made : Some (record { value = decimal (take n bs); next = at + 1 + n }) ≡ Some f = same_wide _ _ f value next in
     let there : wide_of bs (at + 1) n ≡ Some f = cond_not few (cond_not small made) in
     cond_is starts (subst (λ k. wide_of bs (at + 1) k ≡ Some f) (sym run) there)
   where
@@ -68,6 +68,6 @@ wide-told line at f h =
     cond_not {X} {b} {o} {x} e h = rw e h
 
 -- what is read lies inside the line
-pub wide-within : (o : Option WideField) (n : ℕ) → ((f : WideField) → o ≡ Some f → f.next ≤ n) → IfSome o (λ f. f.next ≤ n)
-wide-within None n h = tt
-wide-within (Some f) n h = h f refl
+pub wide_within : (o : Option WideField) (n : ℕ) → ((f : WideField) → o ≡ Some f → f.next ≤ n) → IfSome o (λ f. f.next ≤ n)
+wide_within None n h = tt
+wide_within (Some f) n h = h f refl

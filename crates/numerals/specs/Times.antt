@@ -33,7 +33,7 @@ pub record TimeOfDay (line : List ℕ) (at : ℕ) (f : Field) : Type 0 where
   pub space : slice_index_or line at 0 ≡ 32
   pub hour_digits : AllDigits line (at + 1) (at + 3)
   pub colon : slice_index_or line (at + 3) 0 ≡ 58
-  pub minute-digits : AllDigits line (at + 4) (at + 6)
+  pub minute_digits : AllDigits line (at + 4) (at + 6)
   pub hours : two_digits line (at + 1) ≤ 23
   pub minutes : two_digits line (at + 4) ≤ 59
   pub worth : f.value ≡ 60 * two_digits line (at + 1) + two_digits line (at + 4)

@@ -20,7 +20,7 @@ wide_at line at = cond (nat_lt at (length line) && slice_index line at == 32) (w
 pub record WideNumeral (line : List ℕ) (at : ℕ) (f : WideField) : Type 0 where
   pub space : slice_index_or line at 0 ≡ 32
   pub some_digit : at + 2 ≤ f.next
-  pub ten-digits : f.next ≤ at + 11
+  pub ten_digits : f.next ≤ at + 11
   pub inside : f.next ≤ length line
   pub digits : AllDigits line (at + 1) f.next
   pub no_further : f.next < length line → Digit (slice_index line f.next) → ⊥

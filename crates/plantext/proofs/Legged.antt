@@ -10,7 +10,7 @@ use Rattle.numerals.specs.declared.wide_field.WideField.{WideField}
 use Rattle.numerals.specs.Numbers.{Numeral, number_at}
 use Rattle.numerals.specs.Wides.{WideNumeral, wide_at}
 use Rattle.numerals.proofs.Standing.{number_tells, number_told}
-use Rattle.numerals.proofs.Widely.{wide-tells, wide-told}
+use Rattle.numerals.proofs.Widely.{wide_tells, wide_told}
 use Rattle.typed.specs.Fields.{and_then, whole}
 use Rattle.plantext.specs.Lines.{wide_here, leg_with, leg_of, leg_line}
 use Rattle.plantext.specs.Standing.{Begins, LegStands, LegMisses, LegExceeds}
@@ -28,11 +28,11 @@ number_none line at h = go (number_at line at) (λ f e. h f (number_tells line a
     go None k = refl
     go (Some f) k = absurd (k f refl)
 
-no-wide : (line : List ℕ) (at : ℕ) → wide_at line at ≡ None → (f : WideField) → WideNumeral line at f → ⊥
-no-wide line at e f h = let t = wide-told line at f h in let z : ◌≡◌ {A = ℕ} 0 1 = cc in omega arith
+no_wide : (line : List ℕ) (at : ℕ) → wide_at line at ≡ None → (f : WideField) → WideNumeral line at f → ⊥
+no_wide line at e f h = let t = wide_told line at f h in let z : ◌≡◌ {A = ℕ} 0 1 = cc in omega arith
 
-wide-none : (line : List ℕ) (at : ℕ) → ((f : WideField) → WideNumeral line at f → ⊥) → wide_at line at ≡ None
-wide-none line at h = go (wide_at line at) (λ f e. h f (wide-tells line at f e))
+wide_none : (line : List ℕ) (at : ℕ) → ((f : WideField) → WideNumeral line at f → ⊥) → wide_at line at ≡ None
+wide_none line at h = go (wide_at line at) (λ f e. h f (wide_tells line at f e))
   where
     go : (o : Option WideField) → ((f : WideField) → o ≡ Some f → ⊥) → o ≡ None
     go None k = refl
@@ -55,33 +55,33 @@ module _ (line : List ℕ) where
   place_read : (p : Field) → Numeral line 1 p → leg_of line ≡ after_one line p
   place_read p h = ap (λ o. and_then (ok_or o NoNumber) (after_one line)) (number_told line 1 p h)
 
-  leaves-read : (p : Field) (l : WideField) → WideNumeral line p.next l → after_one line p ≡ after_two line p l
-  leaves-read p l h = ap (λ o. and_then (ok_or o NoNumber) (after_two line p)) (wide-told line p.next l h)
+  leaves_read : (p : Field) (l : WideField) → WideNumeral line p.next l → after_one line p ≡ after_two line p l
+  leaves_read p l h = ap (λ o. and_then (ok_or o NoNumber) (after_two line p)) (wide_told line p.next l h)
 
-  arrives-read : (p : Field) (l a : WideField) → WideNumeral line l.next a → after_two line p l ≡ to_end line p l a
-  arrives-read p l a h = ap (λ o. and_then (ok_or o NoNumber) (to_end line p l)) (wide-told line l.next a h)
+  arrives_read : (p : Field) (l a : WideField) → WideNumeral line l.next a → after_two line p l ≡ to_end line p l a
+  arrives_read p l a h = ap (λ o. and_then (ok_or o NoNumber) (to_end line p l)) (wide_told line l.next a h)
 
   all_read : (p : Field) (l a : WideField) → Numeral line 1 p → WideNumeral line p.next l → WideNumeral line l.next a → leg_of line ≡ to_end line p l a
-  all_read p l a x y z = place_read p x ∙ (leaves-read p l y ∙ arrives-read p l a z)
+  all_read p l a x y z = place_read p x ∙ (leaves_read p l y ∙ arrives_read p l a z)
 
-  stands-told : (leg : Leg) → LegStands line leg → leg_of line ≡ Ok leg
-  stands-told leg s =
-      let p : Field = record { value = leg.place; next = s.after-place } in
-      let l : WideField = record { value = leg.leaves; next = s.after-leaves } in
+  stands_told : (leg : Leg) → LegStands line leg → leg_of line ≡ Ok leg
+  stands_told leg s =
+      let p : Field = record { value = leg.place; next = s.after_place } in
+      let l : WideField = record { value = leg.leaves; next = s.after_leaves } in
       let a : WideField = record { value = leg.arrives; next = length line } in
       all_read p l a s.place s.leaves s.arrives ∙ cond-true (eqb (length line) (length line)) (Ok leg) (Err Surplus) (eq-eqb (length line) (length line) refl)
 
-  misses-told : LegMisses line → leg_of line ≡ Err NoNumber
-  misses-told (inl h) = ap (λ o. and_then (ok_or o NoNumber) (after_one line)) (number_none line 1 h)
-  misses-told (inr (p, x, inl h)) = place_read p x ∙ ap (λ o. and_then (ok_or o NoNumber) (after_two line p)) (wide-none line p.next h)
-  misses-told (inr (p, x, inr (l, y, h))) =
-      place_read p x ∙ (leaves-read p l y ∙ ap (λ o. and_then (ok_or o NoNumber) (to_end line p l)) (wide-none line l.next h))
+  misses_told : LegMisses line → leg_of line ≡ Err NoNumber
+  misses_told (inl h) = ap (λ o. and_then (ok_or o NoNumber) (after_one line)) (number_none line 1 h)
+  misses_told (inr (p, x, inl h)) = place_read p x ∙ ap (λ o. and_then (ok_or o NoNumber) (after_two line p)) (wide_none line p.next h)
+  misses_told (inr (p, x, inr (l, y, h))) =
+      place_read p x ∙ (leaves_read p l y ∙ ap (λ o. and_then (ok_or o NoNumber) (to_end line p l)) (wide_none line l.next h))
 
-  exceeds-told : LegExceeds line → leg_of line ≡ Err Surplus
-  exceeds-told h =
+  exceeds_told : LegExceeds line → leg_of line ≡ Err Surplus
+  exceeds_told h =
       let a = h.arrives in
       let more = h.more in
-      all_read h.place h.leaves a h.place-stands h.leaves-stands h.arrives-stands
+      all_read h.place h.leaves a h.place_stands h.leaves_stands h.arrives_stands
       ∙ cond-false (eqb a.next (length line)) (Ok (leg_with h.place h.leaves a)) (Err Surplus) (ne_eqb a.next (length line) (λ e. omega arith))
 
   module _ (b : Begins line 76) where
@@ -90,40 +90,40 @@ module _ (line : List ℕ) where
         cond_both (eqb a.next (length line)) _ _ (Answers (LegStands line) (W line))
         (λ e. record {
           begins = b;
-          after-place = p.next;
+          after_place = p.next;
           place = x;
-          after-leaves = l.next;
+          after_leaves = l.next;
           leaves = y;
           arrives = subst (λ n. WideNumeral line l.next (record { value = a.value; next = n })) (eqb-true a.next (length line) e) z;
         })
         (λ e. let n = eqb-false a.next (length line) e in let i = z.inside in
-        inr (record { place = p; leaves = l; arrives = a; place-stands = x; leaves-stands = y; arrives-stands = z; more = less a.next (length line) i n }, refl))
+        inr (record { place = p; leaves = l; arrives = a; place_stands = x; leaves_stands = y; arrives_stands = z; more = less a.next (length line) i n }, refl))
       where
         less : (m n : ℕ) → m ≤ n → (m ≡ n → ⊥) → m < n
         less m n h k = omega (arith, h, k)
 
     third : (p : Field) (l : WideField) → Numeral line 1 p → WideNumeral line p.next l → (o : Option WideField) → wide_at line l.next ≡ o → Answers (LegStands line) (W line) (and_then (ok_or o NoNumber) (to_end line p l))
-    third p l x y None e = inl (inr (p, x, inr (l, y, no-wide line l.next e)), refl)
-    third p l x y (Some a) e = ended p l a x y (wide-tells line l.next a e)
+    third p l x y None e = inl (inr (p, x, inr (l, y, no_wide line l.next e)), refl)
+    third p l x y (Some a) e = ended p l a x y (wide_tells line l.next a e)
 
     second : (p : Field) → Numeral line 1 p → (o : Option WideField) → wide_at line p.next ≡ o → Answers (LegStands line) (W line) (and_then (ok_or o NoNumber) (after_two line p))
-    second p x None e = inl (inr (p, x, inl (no-wide line p.next e)), refl)
-    second p x (Some l) e = third p l x (wide-tells line p.next l e) (wide_at line l.next) refl
+    second p x None e = inl (inr (p, x, inl (no_wide line p.next e)), refl)
+    second p x (Some l) e = third p l x (wide_tells line p.next l e) (wide_at line l.next) refl
 
     first : (o : Option Field) → number_at line 1 ≡ o → Answers (LegStands line) (W line) (and_then (ok_or o NoNumber) (after_one line))
     first None e = inl (inl (no_number line 1 e), refl)
     first (Some p) e = second p (number_tells line 1 p e) (wide_at line p.next) refl
 
     only : (o : Result Leg Refusal) → Answers (LegStands line) (W line) o → o ≡ leg_of line
-    only (Ok leg) s = sym (stands-told leg s)
-    only (Err e) (inl (m, q)) = ap Err q ∙ sym (misses-told m)
-    only (Err e) (inr (m, q)) = ap Err q ∙ sym (exceeds-told m)
+    only (Ok leg) s = sym (stands_told leg s)
+    only (Err e) (inl (m, q)) = ap Err q ∙ sym (misses_told m)
+    only (Err e) (inr (m, q)) = ap Err q ∙ sym (exceeds_told m)
 
-    after-says : Says (LegStands line) (W line) (leg_of line)
-    after-says = record { right = first (number_at line 1) refl; only = only }
+    after_says : Says (LegStands line) (W line) (leg_of line)
+    after_says = record { right = first (number_at line 1) refl; only = only }
 
-  pub leg-says : LegSays line (leg_line line)
-  leg-says = says_line line 76 (LegStands line) (LegMisses line) (LegExceeds line) (leg_of line) (λ leg s. s.begins) after-says
+  pub leg_says : LegSays line (leg_line line)
+  leg_says = says_line line 76 (LegStands line) (LegMisses line) (LegExceeds line) (leg_of line) (λ leg s. s.begins) after_says
 
   pub leg_says_at : (r : Result Leg Refusal) → r ≡ leg_line line → LegSays line r
-  leg_says_at r e = subst (LegSays line) (sym e) leg-says
+  leg_says_at r e = subst (LegSays line) (sym e) leg_says

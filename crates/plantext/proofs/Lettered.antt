@@ -31,8 +31,8 @@ module _ (line : List ℕ) (letter : ℕ) where
   Means (Ok u) = Begins line letter
   Means (Err e) = Is LongLine (64 < length line) e ⊎ Is NoLetter ((length line ≤ 64) × (take 1 line ≡ letter ∷ [] → ⊥)) e
 
-  letter-means : Means (lettered line letter)
-  letter-means =
+  letter_means : Means (lettered line letter)
+  letter_means =
       cond_both (ltb 64 (length line)) _ _ Means
       (λ a. inl (ltb-true 64 (length line) a, refl))
       (λ a. let short = ltb-false 64 (length line) a in
@@ -42,8 +42,8 @@ module _ (line : List ℕ) (letter : ℕ) where
       (λ c. (short, in_front line letter (eqb-false (length line) 0 b) (eqb-true (get_or line 0 0) letter c)))
       (λ c. inr ((short, other_in_front line letter (eqb-false (get_or line 0 0) letter c)), refl))))
 
-  pub begins-from : (u : Unit {0}) → Ok u ≡ lettered line letter → Begins line letter
-  begins-from u h = go (lettered line letter) letter-means h
+  pub begins_from : (u : Unit {0}) → Ok u ≡ lettered line letter → Begins line letter
+  begins_from u h = go (lettered line letter) letter_means h
     where
       go : (l : Result (Unit {0}) Refusal) → Means l → Ok u ≡ l → Begins line letter
       go (Ok v) b e = b
@@ -66,13 +66,13 @@ module _ (line : List ℕ) (letter : ℕ) where
     narrower b (Err e) (inr (inr (inl (m, q)))) = inl (m.1, q)
     narrower b (Err e) (inr (inr (inr (m, q)))) = inr (m.1, q)
 
-    same-refusal : (e f g : Refusal) → e ≡ g → f ≡ g → ◌≡◌ {A = Result X Refusal} (Err e) (Err f)
-    same-refusal e f g p q = ap Err (p ∙ sym q)
+    same_refusal : (e f g : Refusal) → e ≡ g → f ≡ g → ◌≡◌ {A = Result X Refusal} (Err e) (Err f)
+    same_refusal e f g p q = ap Err (p ∙ sym q)
 
     -- what is read after the letter decides what the line says
     pub says_line : (inner : Result X Refusal) → ((x : X) → Stands x → Begins line letter) → (Begins line letter → Says Stands After inner)
         → Says Stands (Fault line letter Missing Exceeding) (and_then (lettered line letter) (λ _. inner))
-    says_line inner begins after = go (lettered line letter) letter-means
+    says_line inner begins after = go (lettered line letter) letter_means
       where
         go : (l : Result (Unit {0}) Refusal) → Means l → Says Stands (Fault line letter Missing Exceeding) (and_then l (λ _. inner))
         go (Ok u) b = record { right = wider b inner (after b).right; only = λ o h. (after b).only o (narrower b o h) }
@@ -80,7 +80,7 @@ module _ (line : List ℕ) (letter : ℕ) where
           where
             other : (o : Result X Refusal) → Answers Stands (Fault line letter Missing Exceeding) o → o ≡ Err e
             other (Ok x) h = absurd (omega (arith, long, (begins x h).0))
-            other (Err f) (inl (m, p)) = same-refusal f e LongLine p q
+            other (Err f) (inl (m, p)) = same_refusal f e LongLine p q
             other (Err f) (inr (inl (m, p))) = absurd (omega (arith, long, m.0))
             other (Err f) (inr (inr (inl (m, p)))) = absurd (omega (arith, long, m.0.0))
             other (Err f) (inr (inr (inr (m, p)))) = absurd (omega (arith, long, m.0.0))
@@ -89,6 +89,6 @@ module _ (line : List ℕ) (letter : ℕ) where
             other : (o : Result X Refusal) → Answers Stands (Fault line letter Missing Exceeding) o → o ≡ Err e
             other (Ok x) h = absurd (n.1 (begins x h).1)
             other (Err f) (inl (m, p)) = absurd (omega (arith, m, n.0))
-            other (Err f) (inr (inl (m, p))) = same-refusal f e NoLetter p q
+            other (Err f) (inr (inl (m, p))) = same_refusal f e NoLetter p q
             other (Err f) (inr (inr (inl (m, p)))) = absurd (n.1 m.0.1)
             other (Err f) (inr (inr (inr (m, p)))) = absurd (n.1 m.0.1)

@@ -15,7 +15,7 @@ use Rattle.typed.proofs.Sayings.{says}
 use Rattle.plantext.specs.Lines.{lettered, query_in, query_line}
 use Rattle.plantext.specs.Standing.{Begins, QueryStands, QueryMisses, QueryExceeds}
 use Rattle.plantext.specs.Saying.{Answers, Says, QuerySays}
-use Rattle.plantext.proofs.Lettered.{first_byte, begins-from, After, says_line}
+use Rattle.plantext.proofs.Lettered.{first_byte, begins_from, After, says_line}
 
 by_q : (line : List ℕ) → Begins line 81 → command_of line ≡ result_map_both Route (λ e. e) (query_of line)
 by_q line b =
@@ -29,11 +29,11 @@ back (Ok q) = refl
 back (Err e) = refl
 
 -- after the letter, the query of the command is that of the line
-from-command : (line : List ℕ) → Begins line 81 → and_then (command_of line) query_in ≡ query_of line
-from-command line b = ap (λ r. and_then r query_in) (by_q line b) ∙ back (query_of line)
+from_command : (line : List ℕ) → Begins line 81 → and_then (command_of line) query_in ≡ query_of line
+from_command line b = ap (λ r. and_then r query_in) (by_q line b) ∙ back (query_of line)
 
 pub line_is : (line : List ℕ) (u : Unit {0}) → Ok u ≡ lettered line 81 → and_then (command_of line) query_in ≡ query_line line
-line_is line u h = from-command line (begins-from line 81 u h) ∙ ap (λ r. and_then r (λ _. query_of line)) h
+line_is line u h = from_command line (begins_from line 81 u h) ∙ ap (λ r. and_then r (λ _. query_of line)) h
 
 -- a number is missing, or something follows: nothing else can go wrong after the letter
 abbrev Either : Refusal → Type 0
@@ -52,8 +52,8 @@ either line =
     step (number_at line 1) _ (λ a. step (number_at line a.next) _ (λ b. step (number_at line b.next) _ (λ m.
     step (number_at line m.next) _ (λ k. end (eqb k.next (length line)) (query_with a b m k)))))
 
-after-says : (line : List ℕ) → Begins line 81 → Says (QueryStands line) (After line 81 (QueryStands line) (QueryMisses line) (QueryExceeds line)) (query_of line)
-after-says line b = record { right = right (query_of line) refl; only = only }
+after_says : (line : List ℕ) → Begins line 81 → Says (QueryStands line) (After line 81 (QueryStands line) (QueryMisses line) (QueryExceeds line)) (query_of line)
+after_says line b = record { right = right (query_of line) refl; only = only }
   where
     right : (r : Result Query Refusal) → query_of line ≡ r → Answers (QueryStands line) (After line 81 (QueryStands line) (QueryMisses line) (QueryExceeds line)) r
     right (Ok q) e = ((says line).asks (Route q)).0 (by_q line b ∙ ap (result_map_both Route (λ f. f)) e)
@@ -67,16 +67,16 @@ after-says line b = record { right = right (query_of line) refl; only = only }
         which (inr p) = inr ((says line).exceeds.0 (refused ∙ ap Err p), p)
 
     command : (r : Result Command Refusal) → command_of line ≡ r → and_then r query_in ≡ query_of line
-    command r e = ap (λ c. and_then c query_in) (sym e) ∙ from-command line b
+    command r e = ap (λ c. and_then c query_in) (sym e) ∙ from_command line b
 
     only : (o : Result Query Refusal) → Answers (QueryStands line) (After line 81 (QueryStands line) (QueryMisses line) (QueryExceeds line)) o → o ≡ query_of line
     only (Ok q) a = command (Ok (Route q)) (((says line).asks (Route q)).1 a)
     only (Err e) (inl (m, p)) = ap Err p ∙ command (Err NoNumber) ((says line).misses.1 m)
     only (Err e) (inr (m, p)) = ap Err p ∙ command (Err Surplus) ((says line).exceeds.1 m)
 
-pub query-says : (line : List ℕ) → QuerySays line (query_line line)
-query-says line =
-    says_line line 81 (QueryStands line) (QueryMisses line) (QueryExceeds line) (query_of line) (λ q a. (a.begins.short, a.begins.first)) (after-says line)
+pub query_says : (line : List ℕ) → QuerySays line (query_line line)
+query_says line =
+    says_line line 81 (QueryStands line) (QueryMisses line) (QueryExceeds line) (query_of line) (λ q a. (a.begins.short, a.begins.first)) (after_says line)
 
 pub query_says_at : (line : List ℕ) (r : Result Query Refusal) → r ≡ query_line line → QuerySays line r
-query_says_at line r e = subst (QuerySays line) (sym e) (query-says line)
+query_says_at line r e = subst (QuerySays line) (sym e) (query_says line)

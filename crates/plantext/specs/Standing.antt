@@ -26,11 +26,11 @@ QueryExceeds line = Exceeds line
 -- the letter L, byte 76, and three numbers, one after the other, and nothing else
 pub record LegStands (line : List ℕ) (leg : Leg) : Type 0 where
   pub begins : Begins line 76
-  pub after-place : ℕ
-  pub place : Numeral line 1 (record { value = leg.place; next = after-place })
-  pub after-leaves : ℕ
-  pub leaves : WideNumeral line after-place (record { value = leg.leaves; next = after-leaves })
-  pub arrives : WideNumeral line after-leaves (record { value = leg.arrives; next = length line })
+  pub after_place : ℕ
+  pub place : Numeral line 1 (record { value = leg.place; next = after_place })
+  pub after_leaves : ℕ
+  pub leaves : WideNumeral line after_place (record { value = leg.leaves; next = after_leaves })
+  pub arrives : WideNumeral line after_leaves (record { value = leg.arrives; next = length line })
 
 -- none stands where the first number is due, or the second, or the third
 abbrev pub LegMisses : List ℕ → Type 0
@@ -46,7 +46,7 @@ pub record LegExceeds (line : List ℕ) : Type 0 where
   pub place : Field
   pub leaves : WideField
   pub arrives : WideField
-  pub place-stands : Numeral line 1 place
-  pub leaves-stands : WideNumeral line place.next leaves
-  pub arrives-stands : WideNumeral line leaves.next arrives
+  pub place_stands : Numeral line 1 place
+  pub leaves_stands : WideNumeral line place.next leaves
+  pub arrives_stands : WideNumeral line leaves.next arrives
   pub more : arrives.next < length line

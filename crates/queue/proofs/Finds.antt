@@ -25,14 +25,14 @@ module _ (ks : List (Option ℕ)) (n : ℕ) where
   below_none (Some x) e (a, b, c) = (omega arith, b, λ j k h w. ⊎_elim (λ lt. c j k lt w) (λ le. absurd (none_here j k (omega arith) e w)) (cases_lt j n))
 
   -- the item n waits with key m
-  pub below-some : (best : Option (ℕ × ℕ)) (m : ℕ) → get_or ks n None ≡ Some m → BestBelow ks n best → BestBelow ks (n + 1) (better_of best n m)
-  below-some None m e u = (
+  pub below_some : (best : Option (ℕ × ℕ)) (m : ℕ) → get_or ks n None ≡ Some m → BestBelow ks n best → BestBelow ks (n + 1) (better_of best n m)
+  below_some None m e u = (
     omega arith,
     e,
     λ j k h w.
         ⊎_elim (λ lt. absurd (u j k lt w)) (λ le. let s = key_here j k m (omega arith) e w in (omega arith, λ _. omega arith)) (cases_lt j n),
   )
-  below-some (Some x) m e (a, b, c) = go (ltb m x.1) refl
+  below_some (Some x) m e (a, b, c) = go (ltb m x.1) refl
     where
       go : (t : Bool) → ltb m x.1 ≡ t → BestBelow ks (n + 1) (cond t (Some (n, m)) (Some x))
       go true t =
@@ -59,8 +59,8 @@ inside ks j k w = ⊎_elim (λ lt. lt)
     (λ le. let n : get_or ks j None ≡ None = get_or_past ks j None le in let z : ◌≡◌ {A = ℕ} 0 1 = cc in absurd (omega arith))
     (cases_lt j (length ks))
 
-pub first-inside : (ks : List (Option ℕ)) (i key : ℕ) → First ks i key → i < length ks
-first-inside ks i key f = inside ks i key f.waits
+pub first_inside : (ks : List (Option ℕ)) (i key : ℕ) → First ks i key → i < length ks
+first_inside ks i key f = inside ks i key f.waits
 
 -- the best of all that there are
 pub first_of : (ks : List (Option ℕ)) (best : Option (ℕ × ℕ)) → BestBelow ks (length ks) best → FirstOf ks best

@@ -7,13 +7,13 @@ use Rattle.timetable.specs.declared.refusal.Refusal.TheVariants.{NoItem}
 use Rattle.queue.specs.declared.table.Table.{Table}
 use Rattle.queue.specs.Lines.{most_items, idle, First, set_answer, set_in}
 use Rattle.queue.specs.Tables.{size_for, waiting, table_size}
-use Rattle.queue.proofs.Finds.{first-inside}
+use Rattle.queue.proofs.Finds.{first_inside}
 
 abbrev nothing : Option ℕ
 nothing = None
 
-pub idle-rows : (n m : ℕ) → n ≤ most_items → m ≡ n → take n (idle most_items) ≡ idle m
-idle-rows n m h e = take-replicate n most_items nothing h ∙ ap idle (sym e)
+pub idle_rows : (n m : ℕ) → n ≤ most_items → m ≡ n → take n (idle most_items) ≡ idle m
+idle_rows n m h e = take-replicate n most_items nothing h ∙ ap idle (sym e)
 
 pub size_fits : (n m : ℕ) → m ≡ size_for n → m ≤ most_items
 size_fits n m e = go (ltb n most_items) refl e
@@ -23,8 +23,8 @@ size_fits n m e = go (ltb n most_items) refl e
     go false t s = omega arith
 
 module _ (t : Table) where
-  pub set-inside : (item key : ℕ) → item < t.size → record { answer : Ok tt ≡ set_answer (waiting t) item; after : take t.size (set t.keys item (Some key)) ≡ set_in (waiting t) item key }
-  set-inside item key h =
+  pub set_inside : (item key : ℕ) → item < t.size → record { answer : Ok tt ≡ set_answer (waiting t) item; after : take t.size (set t.keys item (Some key)) ≡ set_in (waiting t) item key }
+  set_inside item key h =
       let b = sym (lt-ltb item (length (waiting t)) (omega (arith, table_size t))) in
       record {
         answer = ap (λ x. cond x (Ok tt) (Err NoItem)) b;
@@ -39,8 +39,8 @@ module _ (t : Table) where
         after = ap (λ x. cond x (set (waiting t) item (Some key)) (waiting t)) b;
       }
 
-  pub taken-inside : (i key : ℕ) → First (waiting t) i key → i < t.size
-  taken-inside i key f = omega (arith, first-inside (waiting t) i key f, table_size t)
+  pub taken_inside : (i key : ℕ) → First (waiting t) i key → i < t.size
+  taken_inside i key f = omega (arith, first_inside (waiting t) i key f, table_size t)
 
-  pub taken-rows : (i key : ℕ) → First (waiting t) i key → take t.size (set t.keys i None) ≡ set (waiting t) i None
-  taken-rows i key f = take-set-lt t.size t.keys i None (taken-inside i key f)
+  pub taken_rows : (i key : ℕ) → First (waiting t) i key → take t.size (set t.keys i None) ≡ set (waiting t) i None
+  taken_rows i key f = take-set-lt t.size t.keys i None (taken_inside i key f)

@@ -14,9 +14,9 @@ set_keeps ks i key = go (ltb i (length ks))
     go true = length-set ks i (Some key)
     go false = refl
 
-take-keeps : (ks : List (Option ℕ)) (r : Option (ℕ × ℕ)) (after : List (Option ℕ)) → Takes ks r after → length after ≡ length ks
-take-keeps ks None after h = ap length h.1
-take-keeps ks (Some x) after h = ap length h.1 ∙ length-set ks x.0 None
+take_keeps : (ks : List (Option ℕ)) (r : Option (ℕ × ℕ)) (after : List (Option ℕ)) → Takes ks r after → length after ≡ length ks
+take_keeps ks None after h = ap length h.1
+take_keeps ks (Some x) after h = ap length h.1 ∙ length-set ks x.0 None
 
 -- there is one first item
 pub first_one : (ks : List (Option ℕ)) (i k j m : ℕ) → First ks i k → First ks j m → (i ≡ j) × (k ≡ m)
@@ -26,15 +26,15 @@ first_one ks i k j m f g =
     let here : Waits ks i m = f.waits ∙ ap {B = Option ℕ} Some same in
     (omega (arith, f.lowest j there, g.lowest i here), same)
 
-take-one : (ks : List (Option ℕ)) (r s : Option (ℕ × ℕ)) (after other : List (Option ℕ)) → Takes ks r after → Takes ks s other → (r ≡ s) × (after ≡ other)
-take-one ks None None after other a b = (refl, a.1 ∙ sym b.1)
-take-one ks None (Some y) after other a b = absurd (a.0 y.0 y.1 b.0.waits)
-take-one ks (Some x) None after other a b = absurd (b.0 x.0 x.1 a.0.waits)
-take-one ks (Some x) (Some y) after other a b =
+take_one : (ks : List (Option ℕ)) (r s : Option (ℕ × ℕ)) (after other : List (Option ℕ)) → Takes ks r after → Takes ks s other → (r ≡ s) × (after ≡ other)
+take_one ks None None after other a b = (refl, a.1 ∙ sym b.1)
+take_one ks None (Some y) after other a b = absurd (a.0 y.0 y.1 b.0.waits)
+take_one ks (Some x) None after other a b = absurd (b.0 x.0 x.1 a.0.waits)
+take_one ks (Some x) (Some y) after other a b =
     let (same, key) = first_one ks x.0 x.1 y.0 y.1 a.0 b.0 in (
       (λ i. Some (same i, key i)),
       a.1 ∙ ap (λ i. set ks i nothing) same ∙ sym b.1,
     )
 
 pub line_laws : LineLaws
-line_laws = record { set_keeps = set_keeps; take-keeps = take-keeps; clear-keeps = λ ks. length-replicate (length ks) nothing; take-one = take-one }
+line_laws = record { set_keeps = set_keeps; take_keeps = take_keeps; clear_keeps = λ ks. length-replicate (length ks) nothing; take_one = take_one }

@@ -16,20 +16,20 @@ abbrev nothing : Option ℕ
 nothing = None
 
 module _ (ls : List Status) (clean : (p : ℕ) → look ls p ≡ Unseen) where
-  no-ride : (p : ℕ) (ride : Ride) → ride_of (look ls p) ≡ Some ride → ⊥
-  no-ride p ride e = let c = ap ride_of (clean p) in let z : ◌≡◌ {A = ℕ} 0 1 = cc in omega arith
+  no_ride : (p : ℕ) (ride : Ride) → ride_of (look ls p) ≡ Some ride → ⊥
+  no_ride p ride e = let c = ap ride_of (clean p) in let z : ◌≡◌ {A = ℕ} 0 1 = cc in omega arith
 
-  no-waiting : (p : ℕ) (ride : Ride) → look ls p ≡ Waiting ride → ⊥
-  no-waiting p ride e = let c = clean p in let z : ◌≡◌ {A = ℕ} 0 1 = cc in omega arith
+  no_waiting : (p : ℕ) (ride : Ride) → look ls p ≡ Waiting ride → ⊥
+  no_waiting p ride e = let c = clean p in let z : ◌≡◌ {A = ℕ} 0 1 = cc in omega arith
 
-  no-settled : (p : ℕ) (ride : Ride) → look ls p ≡ Settled ride → ⊥
-  no-settled p ride e = let c = clean p in let z : ◌≡◌ {A = ℕ} 0 1 = cc in omega arith
+  no_settled : (p : ℕ) (ride : Ride) → look ls p ≡ Settled ride → ⊥
+  no_settled p ride e = let c = clean p in let z : ◌≡◌ {A = ℕ} 0 1 = cc in omega arith
 
   still_none : (ms : List Status) → Better ls ms → (p : ℕ) (ride : Ride) → look ms p ≡ Settled ride → ⊥
   still_none ms b p ride e = subst (λ l. Betters l (look ms p)) (clean p) (b p) ride e
 
-  none-linked : (n : ℕ) → length ls ≤ n → Linked ls (replicate n None)
-  none-linked n h = (omega (arith, length-replicate n nothing), λ p. empty p ∙ sym (ap key_of (clean p)))
+  none_linked : (n : ℕ) → length ls ≤ n → Linked ls (replicate n None)
+  none_linked n h = (omega (arith, length-replicate n nothing), λ p. empty p ∙ sym (ap key_of (clean p)))
     where
       empty : (p : ℕ) → get_or (replicate n nothing) p None ≡ None
       empty p = elim (cases_lt p n) [ inl lt ↦ get_or-replicate n p None None lt | inr le ↦ get_or_past _ p None (omega (arith, length-replicate n nothing)) ]
@@ -39,14 +39,14 @@ module _ (ls : List Status) (clean : (p : ℕ) → look ls p ≡ Unseen) where
     begin size ks is = record {
       fair = asked.fair;
       sized = size ∙ asked.sized;
-      linked = subst (Linked ls) (sym is) (none-linked (length ks₀) (omega (arith, asked.room)));
-      inv = record { made = λ p ride e. absurd (no-ride p ride e); low = λ p ride e. absurd (no-settled p ride e); high = λ p ride e. absurd (no-waiting p ride e) };
+      linked = subst (Linked ls) (sym is) (none_linked (length ks₀) (omega (arith, asked.room)));
+      inv = record { made = λ p ride e. absurd (no_ride p ride e); low = λ p ride e. absurd (no_settled p ride e); high = λ p ride e. absurd (no_waiting p ride e) };
       rooted = (refl, refl);
     }
 
     pub begun : (ms : List Status) (ks : List (Option ℕ)) (ps : List (Option Span)) → 256 ≤ length ps → Opened T q ms ps q.minute → Through T q (Start q.from q.minute) ls ms ks 0 (length T.places) → Going T q ms ks ps
     begun ms ks ps many opened t = record {
-      many = omega (arith, asked.fair.lawful.few-quays);
+      many = omega (arith, asked.fair.lawful.few_quays);
       opened = opened;
       floor = q.minute;
       fair = asked.fair;

@@ -6,7 +6,7 @@ use Rattle.timetable.specs.declared.sailing.Sailing.{Sailing}
 use Rattle.timetable.specs.declared.span.Span.{Span}
 use Rattle.timetable.specs.Times.{next, continues}
 use Rattle.timetable.specs.Timetables.{Timetable, change_at, place_at, span_at}
-use Rattle.timetable.proofs.Laws.{next-late, next_mono, continues-means}
+use Rattle.timetable.proofs.Laws.{next-late, next_mono, continues_means}
 use Rattle.routing.specs.declared.ride.Ride.{Ride}
 use Rattle.routing.specs.declared.ride.Origin.{Origin}
 use Rattle.routing.specs.declared.ride.Origin.TheVariants.{Start, Via}
@@ -15,46 +15,46 @@ use Rattle.routing.specs.Labels.{Status, Unseen, Waiting, Settled, look, ride_of
 use Rattle.routing.specs.Invariants.{LeavesBy, Covers, Better}
 use Rattle.routing.specs.Origins.{quay_of, minute_of, due_of, stand_of}
 use Rattle.routing.specs.Relaxing.{Rooted, Ready, Through, late, Opened}
-use Rattle.routing.proofs.Best.{leaves_later, stands-inside}
-use Rattle.routing.proofs.Steps.{covers-better, better_refl}
+use Rattle.routing.proofs.Best.{leaves_later, stands_inside}
+use Rattle.routing.proofs.Steps.{covers_better, better_refl}
 
-pub opened-better : (T : Timetable) (q : Trip) (ls ms : List Status) (ps : List (Option Span)) (m : ℕ) → Better ls ms → Opened T q ls ps m → Opened T q ms ps m
-opened-better T q ls ms ps m better o v span e = let (h, covers) = o v span e in (h, covers-better T ls ms (late T q v m) 0 (length T.places) better covers)
+pub opened_better : (T : Timetable) (q : Trip) (ls ms : List Status) (ps : List (Option Span)) (m : ℕ) → Better ls ms → Opened T q ls ps m → Opened T q ms ps m
+opened_better T q ls ms ps m better o v span e = let (h, covers) = o v span e in (h, covers_better T ls ms (late T q v m) 0 (length T.places) better covers)
 
 late-later : (T : Timetable) (q : Trip) (ls : List Status) (v m n : ℕ) → m ≤ n → Covers T ls (late T q v m) 0 (length T.places) → Covers T ls (late T q v n) 0 (length T.places)
 late-later T q ls v m n h covers p s a b e f =
     let w = change_at T v + q.extra in
     leaves_later (look ls p) _ _ (next_mono s (m + w) (n + w) (omega arith)) (covers p s a b e f)
 
-pub opened-later : (T : Timetable) (q : Trip) (ls : List Status) (ps : List (Option Span)) (m n : ℕ) → m ≤ n → Opened T q ls ps m → Opened T q ls ps n
-opened-later T q ls ps m n h o v span e = let (holds, covers) = o v span e in (holds, late-later T q ls v m n h covers)
+pub opened_later : (T : Timetable) (q : Trip) (ls : List Status) (ps : List (Option Span)) (m n : ℕ) → m ≤ n → Opened T q ls ps m → Opened T q ls ps n
+opened_later T q ls ps m n h o v span e = let (holds, covers) = o v span e in (holds, late-later T q ls v m n h covers)
 
 -- who changes leaves no earlier than who comes from the origin
-due-within : (T : Timetable) (q : Trip) (ls : List Status) (o : Origin) → Rooted T q ls o → (s : Sailing) → due_of o s ≤ minute_of o + (change_at T (quay_of o) + q.extra)
-due-within T q ls (Start a m) r s = omega arith
-due-within T q ls (Via k ride w) (e, f, g) s = go (continues s ride.sailing)
+due_within : (T : Timetable) (q : Trip) (ls : List Status) (o : Origin) → Rooted T q ls o → (s : Sailing) → due_of o s ≤ minute_of o + (change_at T (quay_of o) + q.extra)
+due_within T q ls (Start a m) r s = omega arith
+due_within T q ls (Via k ride w) (e, f, g) s = go (continues s ride.sailing)
   where
     go : (b : Bool) → ride.arrives + cond b 0 w ≤ ride.arrives + (change_at T ride.sailing.to + q.extra)
     go true = omega arith
     go false = omega arith
 
-some-span : (a b : Span) → ◌≡◌ {A = Option Span} (Some a) (Some b) → a ≡ b
-some-span a b e = cc
+some_span : (a b : Span) → ◌≡◌ {A = Option Span} (Some a) (Some b) → a ≡ b
+some_span a b e = cc
 
 -- one quay more is open
-pub opened-more : (T : Timetable) (q : Trip) (o : Origin) (ls ms : List Status) (ks : List (Option ℕ)) (ps : List (Option Span)) (span : Span) → quay_of o < length ps
+pub opened_more : (T : Timetable) (q : Trip) (o : Origin) (ls ms : List Status) (ks : List (Option ℕ)) (ps : List (Option Span)) (span : Span) → quay_of o < length ps
     → span ≡ span_at T (quay_of o) → Opened T q ls ps (minute_of o) → Through T q o ls ms ks 0 (length T.places) → Opened T q ms (set ps (quay_of o) (Some span)) (minute_of o)
-opened-more T q o ls ms ks ps span h holds opened t v new e = ⊎_elim
+opened_more T q o ls ms ks ps span h holds opened t v new e = ⊎_elim
     (λ same.
-    let is : span ≡ new = some-span span new (sym (get_or-set_same ps (quay_of o) (Some span) None h) ∙ ap (λ x. get_or (set ps (quay_of o) (Some span)) x None) (sym same) ∙ e) in
+    let is : span ≡ new = some_span span new (sym (get_or-set_same ps (quay_of o) (Some span) None h) ∙ ap (λ x. get_or (set ps (quay_of o) (Some span)) x None) (sym same) ∙ e) in
     let P : ℕ → Type 0 = λ x. (new ≡ span_at T x) × Covers T ms (late T q x (minute_of o)) 0 (length T.places) in
     subst P (sym same) (
       sym is ∙ holds,
       λ p s lo hi f g. leaves_later (look ms p) _ _
-          (next_mono s (due_of o s) (minute_of o + (change_at T (quay_of o) + q.extra)) (due-within T q ms o t.ready.rooted s))
+          (next_mono s (due_of o s) (minute_of o + (change_at T (quay_of o) + q.extra)) (due_within T q ms o t.ready.rooted s))
           (t.covers p s lo hi f g),
     ))
-    (λ ne. opened-better T q ls ms ps (minute_of o) t.better opened v new (sym (get_or-set_other ps (quay_of o) v (Some span) None ne) ∙ e))
+    (λ ne. opened_better T q ls ms ps (minute_of o) t.better opened v new (sym (get_or-set_other ps (quay_of o) v (Some span) None ne) ∙ e))
     (cases_eq v (quay_of o))
 
 -- at an open quay nothing is to do at a place that does not wait, or does not go on
@@ -77,21 +77,21 @@ module _ (T : Timetable) (q : Trip) (ls : List Status) (ks : List (Option ℕ)) 
       at : Covers T ls (stand_of (Via k ride w)) p (p + 1)
       at j x lo hi e f =
           let same : j ≡ p = omega arith in
-          by_label j x (look ls j) refl same e (open' j x (omega arith) (stands-inside T j x e) e f) (continues x ride.sailing) refl
+          by_label j x (look ls j) refl same e (open' j x (omega arith) (stands_inside T j x e) e f) (continues x ride.sailing) refl
 
-pub waiting-is : (l : Status) (ride : Ride) → Some ride ≡ waiting_of l → l ≡ Waiting ride
-waiting-is Unseen ride e = let z : ◌≡◌ {A = ℕ} 0 1 = cc in absurd (omega arith)
-waiting-is (Waiting old) ride e = sym (ap {B = Status} Waiting (same ride old e))
+pub waiting_is : (l : Status) (ride : Ride) → Some ride ≡ waiting_of l → l ≡ Waiting ride
+waiting_is Unseen ride e = let z : ◌≡◌ {A = ℕ} 0 1 = cc in absurd (omega arith)
+waiting_is (Waiting old) ride e = sym (ap {B = Status} Waiting (same ride old e))
   where
     same : (a b : Ride) → ◌≡◌ {A = Option Ride} (Some a) (Some b) → a ≡ b
     same a b e = cc
-waiting-is (Settled old) ride e = let z : ◌≡◌ {A = ℕ} 0 1 = cc in absurd (omega arith)
+waiting_is (Settled old) ride e = let z : ◌≡◌ {A = ℕ} 0 1 = cc in absurd (omega arith)
 
-pub not-waiting : (l : Status) (old : Ride) → None ≡ waiting_of l → l ≡ Waiting old → ⊥
-not-waiting l old e f = let g = ap waiting_of f in let z : ◌≡◌ {A = ℕ} 0 1 = cc in omega arith
+pub not_waiting : (l : Status) (old : Ride) → None ≡ waiting_of l → l ≡ Waiting old → ⊥
+not_waiting l old e f = let g = ap waiting_of f in let z : ◌≡◌ {A = ℕ} 0 1 = cc in omega arith
 
-pub continues-from : (s r : Sailing) → continues s r ≡ true → s.from ≡ r.to
-continues-from s r h = ((continues-means s r).0 h).same-quay
+pub continues_from : (s r : Sailing) → continues s r ≡ true → s.from ≡ r.to
+continues_from s r h = ((continues_means s r).0 h).same_quay
 
 pub differ : (b : Bool) → b ≡ true → false ≡ b → ⊥
 differ b e f = let z : ◌≡◌ {A = ℕ} 0 1 = cc in omega arith

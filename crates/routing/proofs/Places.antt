@@ -4,18 +4,18 @@ use Rattle.queue.specs.Lines.{set_in}
 use Rattle.routing.specs.declared.label.Label.{Label}
 use Rattle.routing.specs.declared.ride.Ride.{Ride}
 use Rattle.routing.specs.Labels.{Waiting, status_of, view, look, Linked, gains, reach}
-use Rattle.routing.proofs.Links.{not-sooner, is-sooner, linked-set, set_there}
-use Rattle.routing.proofs.Views.{view-length, view-at, view-set, linked_as}
+use Rattle.routing.proofs.Links.{not_sooner, is_sooner, linked_set, set_there}
+use Rattle.routing.proofs.Views.{view-length, view_at, view-set, linked_as}
 
 module _ (labels : List Label) (p : ℕ) (ride : Ride) (ks : List (Option ℕ)) (inside : p < length (view labels)) (linked : Linked (view labels) ks) where
   at : (d : Label) → look (view labels) p ≡ status_of (get_or labels p d)
-  at d = view-at labels p d (omega (arith, inside, view-length labels))
+  at d = view_at labels p d (omega (arith, inside, view-length labels))
 
   -- the ride is no better, and the label stays
   pub stays : (d : Label) → false ≡ gains (status_of (get_or labels p d)) ride
       → record { after : view labels ≡ set (view labels) p (reach (look (view labels) p) ride); linked : Linked (view labels) ks }
   stays d worse = record {
-    after = not-sooner (view labels) p ride (worse ∙ sym (ap (λ l. gains l ride) (at d)));
+    after = not_sooner (view labels) p ride (worse ∙ sym (ap (λ l. gains l ride) (at d)));
     linked = linked;
   }
 
@@ -25,8 +25,8 @@ module _ (labels : List Label) (p : ℕ) (ride : Ride) (ks : List (Option ℕ)) 
   renewed d new better is ks' kept =
       let wrote : view (set labels p new) ≡ set (view labels) p (Waiting ride) = view-set labels p new ∙ ap (set (view labels) p) is in
       record {
-        after = wrote ∙ is-sooner (view labels) p ride (better ∙ sym (ap (λ l. gains l ride) (at d)));
+        after = wrote ∙ is_sooner (view labels) p ride (better ∙ sym (ap (λ l. gains l ride) (at d)));
         linked = linked_as (view (set labels p new)) (set (view labels) p (Waiting ride)) ks' (set ks p (Some ride.arrives)) wrote
             (kept ∙ set_there ks p ride.arrives (omega (arith, inside, linked.0)))
-            (linked-set (view labels) ks p (Waiting ride) inside linked);
+            (linked_set (view labels) ks p (Waiting ride) inside linked);
       }

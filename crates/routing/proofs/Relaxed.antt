@@ -14,12 +14,12 @@ use Rattle.routing.specs.Limits.{last_minute, long_change, long_leg}
 use Rattle.routing.specs.Invariants.{LeavesBy, From, Made, Inv, Better}
 use Rattle.routing.specs.Origins.{quay_of, minute_of, due_of, latest_due, via_of, depth_of, stand_of, ride_from, Small}
 use Rattle.routing.specs.Relaxing.{Rooted, Ready, Through}
-use Rattle.routing.proofs.Best.{stands-inside, same-sailing}
-use Rattle.routing.proofs.Steps.{better-keeps, better_refl, better_trans, covers-better, reached, reached-better, reached-by, settled-reach, settled-le}
+use Rattle.routing.proofs.Best.{stands_inside, same_sailing}
+use Rattle.routing.proofs.Steps.{better_keeps, better_refl, better_trans, covers_better, reached, reached_better, reached_by, settled-reach, settled_le}
 
-pub rooted-better : (T : Timetable) (q : Trip) (ls ms : List Status) (o : Origin) → Better ls ms → Rooted T q ls o → Rooted T q ms o
-rooted-better T q ls ms (Start a m) b r = r
-rooted-better T q ls ms (Via k ride w) b (e, f, g) = (better-keeps ls ms b k ride e, f, g)
+pub rooted_better : (T : Timetable) (q : Trip) (ls ms : List Status) (o : Origin) → Better ls ms → Rooted T q ls o → Rooted T q ms o
+rooted_better T q ls ms (Start a m) b r = r
+rooted_better T q ls ms (Via k ride w) b (e, f, g) = (better_keeps ls ms b k ride e, f, g)
 
 -- a barge that sails on is due no later than one to change to
 pub due-latest : (o : Origin) (s : Sailing) → due_of o s ≤ latest_due o
@@ -34,7 +34,7 @@ due-latest (Via k ride w) s = go (continues s ride.sailing)
 pub record Bounds (o : Origin) (ls : List Status) : Type 0 where
   pub minute : minute_of o ≤ last_minute + long_leg * depth_of o
   pub depth : depth_of o ≤ settled ls
-  pub due-late : (s : Sailing) → minute_of o ≤ due_of o s
+  pub due_late : (s : Sailing) → minute_of o ≤ due_of o s
   pub latest_soon : latest_due o ≤ minute_of o + long_change
 
 module _ (T : Timetable) (q : Trip) (ls : List Status) (ks : List (Option ℕ)) where
@@ -42,19 +42,19 @@ module _ (T : Timetable) (q : Trip) (ls : List Status) (ks : List (Option ℕ)) 
   bounds (Start quay m) ready = record {
     minute = omega (arith, ready.rooted.1, ready.fair.minute);
     depth = omega arith;
-    due-late = λ s. omega arith;
+    due_late = λ s. omega arith;
     latest_soon = omega arith;
   }
   bounds (Via k ride w) ready =
       let (e, f, g) = ready.rooted in
       let made = ready.inv.made k ride (ap ride_of e) in
       let low = ready.inv.low k ride e in
-      let change = ready.fair.lawful.change-day ride.sailing.to in
+      let change = ready.fair.lawful.change_day ride.sailing.to in
       let class = ready.fair.extra in
       record {
         minute = made.bound;
         depth = low.1;
-        due-late = λ s. omega arith;
+        due_late = λ s. omega arith;
         latest_soon = omega arith;
       }
 
@@ -68,16 +68,16 @@ module _ (T : Timetable) (q : Trip) (ls : List Status) (ks : List (Option ℕ)) 
         let b = bounds o ready in
         let due = b.latest_soon in
         let within = ready.fair.lawful.within p s e in
-        let le = settled-le ls in
-        let few = ready.fair.lawful.few-places in
-        record { due = omega (arith, ready.sized); depth = omega (arith, ready.sized); dep = within.dep-day; arr = within.arr-day }
+        let le = settled_le ls in
+        let few = ready.fair.lawful.few_places in
+        record { due = omega (arith, ready.sized); depth = omega (arith, ready.sized); dep = within.dep_day; arr = within.arr_day }
 
-    made-from : (s : Sailing) → place_at T p ≡ Some s → s.from ≡ quay_of o → Made T q ls p (ride_from o s)
-    made-from s e quay =
+    made_from : (s : Sailing) → place_at T p ≡ Some s → s.from ≡ quay_of o → Made T q ls p (ride_from o s)
+    made_from s e quay =
         let b = bounds o ready in
         let due = due-latest o s in
         let last = b.latest_soon in
-        let soon = next_soon s (ready.fair.lawful.within p s e).dep-day (due_of o s) in
+        let soon = next_soon s (ready.fair.lawful.within p s e).dep_day (due_of o s) in
         let short = (length_cycle s).short in
         record { stands = e; arrives = refl; bound = omega arith; from = from_origin o s ready.rooted quay }
 
@@ -91,15 +91,15 @@ module _ (T : Timetable) (q : Trip) (ls : List Status) (ks : List (Option ℕ)) 
     stepped s e quay ms ks' is linked =
         let new = ride_from o s in
         let b = bounds o ready in
-        let due = b.due-late s in
+        let due = b.due_late s in
         let late = next-late s (due_of o s) in
-        let p< : p < length ls = omega (arith, stands-inside T p s e, ready.sized) in
-        let made = made-from s e quay in
+        let p< : p < length ls = omega (arith, stands_inside T p s e, ready.sized) in
+        let made = made_from s e quay in
         let later : minute_of o ≤ new.leaves = omega arith in
         let deep : new.depth ≤ settled ls + 1 = omega (arith, b.depth) in
         let r = reached T q ls p (minute_of o) (settled ls) new p< ready.inv made later deep in
-        let better = reached-better T q ls p (minute_of o) (settled ls) new p< ready.inv made later deep in
-        let within = reached-by T q ls p (minute_of o) (settled ls) new p< ready.inv made later deep in
+        let better = reached_better T q ls p (minute_of o) (settled ls) new p< ready.inv made later deep in
+        let within = reached_by T q ls p (minute_of o) (settled ls) new p< ready.inv made later deep in
         let same : settled (set ls p (reach (look ls p) new)) ≡ settled ls = settled-reach ls p (reach (look ls p) new) p< r.1 in
         let inv : Inv T q (set ls p (reach (look ls p) new)) (minute_of o) (settled (set ls p (reach (look ls p) new))) =
         subst (λ c. Inv T q (set ls p (reach (look ls p) new)) (minute_of o) c) (sym same) r.0 in
@@ -111,12 +111,12 @@ module _ (T : Timetable) (q : Trip) (ls : List Status) (ks : List (Option ℕ)) 
             sized = ap length is ∙ length-set ls p _ ∙ ready.sized;
             linked = linked;
             inv = to;
-            rooted = rooted-better T q ls ms o better' ready.rooted;
+            rooted = rooted_better T q ls ms o better' ready.rooted;
           };
           better = better';
           covers = λ k s₂ lo hi e₂ f.
               let k-is : p ≡ k = omega arith in
-              let s-is : s ≡ s₂ = same-sailing T k s s₂ (ap (place_at T) (sym k-is) ∙ e) e₂ in
+              let s-is : s ≡ s₂ = same_sailing T k s s₂ (ap (place_at T) (sym k-is) ∙ e) e₂ in
               subst (λ j. LeavesBy (look ms j) (next s₂ (due_of o s₂))) k-is
               (subst (λ z. LeavesBy (look ms p) (next z (due_of o z))) s-is
               (subst (λ xs. LeavesBy (look xs p) (next s (due_of o s))) (sym is) within));
@@ -129,7 +129,7 @@ joined T q o ls ms ns ks ks' a b c t u = record {
   ready = u.ready;
   better = better_trans ls ms ns t.better u.better;
   covers = λ k s lo hi e f. ⊎_elim
-      (λ h. covers-better T ms ns (stand_of o) a b u.better t.covers k s lo h e f)
+      (λ h. covers_better T ms ns (stand_of o) a b u.better t.covers k s lo h e f)
       (λ h. u.covers k s h hi e f)
       (cases_lt k b);
 }

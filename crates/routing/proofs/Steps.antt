@@ -9,27 +9,27 @@ use Rattle.routing.specs.declared.ride.Ride.{Ride}
 use Rattle.routing.specs.declared.trip.Trip.{Trip}
 use Rattle.routing.specs.Labels.{Status, Unseen, Waiting, Settled, look, ride_of, reach, one, settled}
 use Rattle.routing.specs.Invariants.{LeavesBy, From, Made, Inv, Covers, Closed, Betters, Better}
-use Rattle.routing.proofs.Best.{same-sailing}
+use Rattle.routing.proofs.Best.{same_sailing}
 
 -- what is settled stays so
 abbrev pub Keeps : List Status → List Status → Type 0
 Keeps ls ms = (k : ℕ) (prior : Ride) → look ls k ≡ Settled prior → look ms k ≡ Settled prior
 
-pub from-keeps : (T : Timetable) (q : Trip) (ls ms : List Status) (s : Sailing) (ride : Ride) (via : Option ℕ) → Keeps ls ms → From T q ls s ride via → From T q ms s ride via
-from-keeps T q ls ms s ride None keeps f = f
-from-keeps T q ls ms s ride (Some k) keeps (prior, r, e, a, b, c, d) = (prior, r, keeps k prior e, a, b, c, d)
+pub from_keeps : (T : Timetable) (q : Trip) (ls ms : List Status) (s : Sailing) (ride : Ride) (via : Option ℕ) → Keeps ls ms → From T q ls s ride via → From T q ms s ride via
+from_keeps T q ls ms s ride None keeps f = f
+from_keeps T q ls ms s ride (Some k) keeps (prior, r, e, a, b, c, d) = (prior, r, keeps k prior e, a, b, c, d)
 
-pub made-keeps : (T : Timetable) (q : Trip) (ls ms : List Status) (p : ℕ) (ride : Ride) → Keeps ls ms → Made T q ls p ride → Made T q ms p ride
-made-keeps T q ls ms p ride keeps m = record {
+pub made_keeps : (T : Timetable) (q : Trip) (ls ms : List Status) (p : ℕ) (ride : Ride) → Keeps ls ms → Made T q ls p ride → Made T q ms p ride
+made_keeps T q ls ms p ride keeps m = record {
   stands = m.stands;
   arrives = m.arrives;
   bound = m.bound;
-  from = from-keeps T q ls ms ride.sailing ride ride.via keeps m.from;
+  from = from_keeps T q ls ms ride.sailing ride ride.via keeps m.from;
 }
 
 -- better labels keep what is settled
-pub better-keeps : (ls ms : List Status) → Better ls ms → Keeps ls ms
-better-keeps ls ms b k prior e = let P : Status → Type 0 = λ l. Betters l (look ms k) in subst P e (b k)
+pub better_keeps : (ls ms : List Status) → Better ls ms → Keeps ls ms
+better_keeps ls ms b k prior e = let P : Status → Type 0 = λ l. Betters l (look ms k) in subst P e (b k)
 
 pub betters_refl : (l : Status) → Betters l l
 betters_refl Unseen = λ ride e. let z : ◌≡◌ {A = ℕ} 0 1 = cc in omega arith
@@ -44,8 +44,8 @@ leaves_betters Unseen m n b w = absurd w
 leaves_betters (Waiting ride) m n (new, e, h) w = let P : Status → Type 0 = λ l. LeavesBy l n in subst P (sym e) (omega arith)
 leaves_betters (Settled ride) m n e w = let P : Status → Type 0 = λ l. LeavesBy l n in subst P (sym e) w
 
-pub covers-better : (T : Timetable) (ls ms : List Status) (here : Stand) (a b : ℕ) → Better ls ms → Covers T ls here a b → Covers T ms here a b
-covers-better T ls ms here a b better covers p s lo hi e f = leaves_betters (look ls p) (look ms p) _ (better p) (covers p s lo hi e f)
+pub covers_better : (T : Timetable) (ls ms : List Status) (here : Stand) (a b : ℕ) → Better ls ms → Covers T ls here a b → Covers T ms here a b
+covers_better T ls ms here a b better covers p s lo hi e f = leaves_betters (look ls p) (look ms p) _ (better p) (covers p s lo hi e f)
 
 betters_trans : (l m n : Status) → Betters l m → Betters m n → Betters l n
 betters_trans Unseen Unseen n b c = c
@@ -74,16 +74,16 @@ module _ (T : Timetable) (q : Trip) (ls : List Status) (p : ℕ) (l : Status) (p
       (λ ne. let R : Status → Type 0 = P k in subst R (sym (elsewhere k ne)) (others k ne))
       (cases_eq k p)
 
-  pub inv-set : (f c f' c' : ℕ) → Inv T q ls f c → Keeps ls (set ls p l) → f ≤ f' → c ≤ c'
+  pub inv_set : (f c f' c' : ℕ) → Inv T q ls f c → Keeps ls (set ls p l) → f ≤ f' → c ≤ c'
       → ((ride : Ride) → ride_of l ≡ Some ride → Made T q ls p ride)
       → ((ride : Ride) → l ≡ Settled ride → (ride.arrives ≤ f') × (ride.depth ≤ c'))
       → ((ride : Ride) → l ≡ Waiting ride → (f' ≤ ride.arrives) × (ride.depth ≤ c' + 1))
       → ((k : ℕ) (ride : Ride) → (k ≡ p → ⊥) → look ls k ≡ Waiting ride → f' ≤ ride.arrives)
       → Inv T q (set ls p l) f' c'
-  inv-set f c f' c' inv keeps hf hc made low high others = record {
+  inv_set f c f' c' inv keeps hf hc made low high others = record {
     made = at_each (λ k x. (ride : Ride) → ride_of x ≡ Some ride → Made T q (set ls p l) k ride)
-        (λ ride e. made-keeps T q ls (set ls p l) p ride keeps (made ride e))
-        (λ k ne ride e. made-keeps T q ls (set ls p l) k ride keeps (inv.made k ride e));
+        (λ ride e. made_keeps T q ls (set ls p l) p ride keeps (made ride e))
+        (λ k ne ride e. made_keeps T q ls (set ls p l) k ride keeps (inv.made k ride e));
     low = at_each (λ k x. (ride : Ride) → x ≡ Settled ride → (ride.arrives ≤ f') × (ride.depth ≤ c')) low
         (λ k ne ride e. let h = inv.low k ride e in (omega arith, omega arith));
     high = at_each (λ k x. (ride : Ride) → x ≡ Waiting ride → (f' ≤ ride.arrives) × (ride.depth ≤ c' + 1)) high
@@ -96,11 +96,11 @@ differ_sw a b e = let z : ◌≡◌ {A = ℕ} 0 1 = cc in omega arith
 differ_us : (b : Ride) → Unseen ≡ Settled b → ⊥
 differ_us b e = let z : ◌≡◌ {A = ℕ} 0 1 = cc in omega arith
 
-same-waiting : (a b : Ride) → Waiting a ≡ Waiting b → a ≡ b
-same-waiting a b e = cc
+same_waiting : (a b : Ride) → Waiting a ≡ Waiting b → a ≡ b
+same_waiting a b e = cc
 
-same-settled : (a b : Ride) → Settled a ≡ Settled b → a ≡ b
-same-settled a b e = cc
+same_settled : (a b : Ride) → Settled a ≡ Settled b → a ≡ b
+same_settled a b e = cc
 
 same_some : (a b : Ride) → ◌≡◌ {A = Option Ride} (Some a) (Some b) → a ≡ b
 same_some a b e = cc
@@ -126,12 +126,12 @@ module _ (T : Timetable) (q : Trip) (ls : List Status) (p f c : ℕ) (new : Ride
   late : new.leaves ≤ new.arrives
   late = omega (arith, made.arrives)
 
-  put-new : ((prior : Ride) → look ls p ≡ Settled prior → ⊥) → Betters (look ls p) (Waiting new) → Result (Waiting new)
-  put-new open' b = (
-    inv-set T q ls p (Waiting new) p< f c f c inv (keeps-set ls p (Waiting new) open') (omega arith) (omega arith)
+  put_new : ((prior : Ride) → look ls p ≡ Settled prior → ⊥) → Betters (look ls p) (Waiting new) → Result (Waiting new)
+  put_new open' b = (
+    inv_set T q ls p (Waiting new) p< f c f c inv (keeps-set ls p (Waiting new) open') (omega arith) (omega arith)
         (λ ride e. let P : Ride → Type 0 = λ x. Made T q ls p x in subst P (same_some new ride e) made)
         (λ ride e. absurd (differ_sw new ride e))
-        (λ ride e. let P : Ride → Type 0 = λ x. (f ≤ x.arrives) × (x.depth ≤ c + 1) in subst P (same-waiting new ride e) (omega (arith, late), depth))
+        (λ ride e. let P : Ride → Type 0 = λ x. (f ≤ x.arrives) × (x.depth ≤ c + 1) in subst P (same_waiting new ride e) (omega (arith, late), depth))
         (λ k ride ne e. (inv.high k ride e).0),
     b,
     omega arith,
@@ -142,26 +142,26 @@ module _ (T : Timetable) (q : Trip) (ls : List Status) (p f c : ℕ) (new : Ride
       let back : ls ≡ set ls p x = sym (set-get_or ls p Unseen) ∙ ap (λ y. set ls p y) e in
       (subst (λ ms. Inv T q ms f c) back inv, subst (Betters (look ls p)) e (betters_refl (look ls p)), w)
 
-  reached-at : (x : Status) → look ls p ≡ x → Result (reach x new)
-  reached-at Unseen e = put-new (λ prior g. differ_us prior (sym e ∙ g)) (subst (λ x. Betters x (Waiting new)) (sym e) (λ prior g. differ_sw new prior g))
-  reached-at (Waiting ride) e = by_test (ltb new.leaves ride.leaves) refl
+  reached_at : (x : Status) → look ls p ≡ x → Result (reach x new)
+  reached_at Unseen e = put_new (λ prior g. differ_us prior (sym e ∙ g)) (subst (λ x. Betters x (Waiting new)) (sym e) (λ prior g. differ_sw new prior g))
+  reached_at (Waiting ride) e = by_test (ltb new.leaves ride.leaves) refl
     where
       by_test : (t : Bool) → ltb new.leaves ride.leaves ≡ t → Result (cond t (Waiting new) (Waiting ride))
-      by_test true t = put-new (λ prior g. differ_sw ride prior (sym e ∙ g)) (subst (λ x. Betters x (Waiting new)) (sym e) (new, refl, omega (arith, ltb-true _ _ t)))
+      by_test true t = put_new (λ prior g. differ_sw ride prior (sym e ∙ g)) (subst (λ x. Betters x (Waiting new)) (sym e) (new, refl, omega (arith, ltb-true _ _ t)))
       by_test false t = keep_old (Waiting ride) e (omega (arith, ltb-false _ _ t))
-  reached-at (Settled ride) e =
+  reached_at (Settled ride) e =
       let low = inv.low p ride e in
       let m = inv.made p ride (ap ride_of e) in
       keep_old (Settled ride) e (omega (arith, m.arrives))
 
   pub reached : Result (reach (look ls p) new)
-  reached = reached-at (look ls p) refl
+  reached = reached_at (look ls p) refl
 
-  pub reached-better : Better ls (set ls p (reach (look ls p) new))
-  reached-better = at_each T q ls p (reach (look ls p) new) p< (λ k x. Betters (look ls k) x) reached.1 (λ k ne. betters_refl (look ls k))
+  pub reached_better : Better ls (set ls p (reach (look ls p) new))
+  reached_better = at_each T q ls p (reach (look ls p) new) p< (λ k x. Betters (look ls k) x) reached.1 (λ k ne. betters_refl (look ls k))
 
-  pub reached-by : LeavesBy (look (set ls p (reach (look ls p) new)) p) new.leaves
-  reached-by = subst (λ x. LeavesBy x new.leaves) (sym (get_or-set_same ls p (reach (look ls p) new) Unseen p<)) reached.2
+  pub reached_by : LeavesBy (look (set ls p (reach (look ls p) new)) p) new.leaves
+  reached_by = subst (λ x. LeavesBy x new.leaves) (sym (get_or-set_same ls p (reach (look ls p) new) Unseen p<)) reached.2
 
 -- the first of the waiting places is settled
 module _ (T : Timetable) (q : Trip) (ls : List Status) (p f c : ℕ) (ride : Ride) (p< : p < length ls) (inv : Inv T q ls f c)
@@ -172,19 +172,19 @@ module _ (T : Timetable) (q : Trip) (ls : List Status) (p f c : ℕ) (ride : Rid
   pub settle_inv : Inv T q (set ls p (Settled ride)) ride.arrives (c + 1)
   settle_inv =
       let h = inv.high p ride waits in
-      inv-set T q ls p (Settled ride) p< f c ride.arrives (c + 1) inv settle_keeps h.0 (omega arith)
+      inv_set T q ls p (Settled ride) p< f c ride.arrives (c + 1) inv settle_keeps h.0 (omega arith)
       (λ s₂ e. let P : Ride → Type 0 = λ x. Made T q ls p x in subst P (same_some ride s₂ e) (inv.made p ride (ap ride_of waits)))
-      (λ s₂ e. let P : Ride → Type 0 = λ x. (x.arrives ≤ ride.arrives) × (x.depth ≤ c + 1) in subst P (same-settled ride s₂ e) (omega arith, h.1))
+      (λ s₂ e. let P : Ride → Type 0 = λ x. (x.arrives ≤ ride.arrives) × (x.depth ≤ c + 1) in subst P (same_settled ride s₂ e) (omega arith, h.1))
       (λ s₂ e. absurd (differ_sw s₂ ride (sym e)))
       (λ k ks ne e. first k ks e)
 
   pub settle_leaves : (k n : ℕ) → LeavesBy (look ls k) n → LeavesBy (look (set ls p (Settled ride)) k) n
   settle_leaves k n = at_each T q ls p (Settled ride) p< (λ j x. LeavesBy (look ls j) n → LeavesBy x n) (λ w. let P : Status → Type 0 = λ x. LeavesBy x n in subst P waits w) (λ j ne w. w) k
 
-  settled-cases : (ms : List Status) → Better (set ls p (Settled ride)) ms → (k : ℕ) (prior : Ride) → look ms k ≡ Settled prior → ((k ≡ p) × (prior ≡ ride)) ⊎ (look ls k ≡ Settled prior)
-  settled-cases ms better k prior e =
+  settled_cases : (ms : List Status) → Better (set ls p (Settled ride)) ms → (k : ℕ) (prior : Ride) → look ms k ≡ Settled prior → ((k ≡ p) × (prior ≡ ride)) ⊎ (look ls k ≡ Settled prior)
+  settled_cases ms better k prior e =
       let back = settled_back (look (set ls p (Settled ride)) k) (look ms k) prior (better k) e in
-      ⊎_elim (λ same. inl (same, same-settled prior ride (sym back ∙ ap (look (set ls p (Settled ride))) same ∙ get_or-set_same ls p (Settled ride) Unseen p<)))
+      ⊎_elim (λ same. inl (same, same_settled prior ride (sym back ∙ ap (look (set ls p (Settled ride))) same ∙ get_or-set_same ls p (Settled ride) Unseen p<)))
       (λ ne. inr (sym (get_or-set_other ls p k (Settled ride) Unseen ne) ∙ back))
       (cases_eq k p)
 
@@ -192,26 +192,26 @@ module _ (T : Timetable) (q : Trip) (ls : List Status) (p f c : ℕ) (ride : Rid
   pub settle_closed : (r : Sailing) (ms : List Status) → Closed T q ls → place_at T p ≡ Some r → (r.to ≡ q.to → ⊥) → Better (set ls p (Settled ride)) ms
       → Covers T ms (after T q.extra r ride.arrives) 0 (length T.places) → Closed T q ms
   settle_closed r ms closed stands away better covers = record {
-    begun = covers-better T (set ls p (Settled ride)) ms (start q.from q.minute) _ _ better (λ k s lo hi e g. settle_leaves k _ (closed.begun k s lo hi e g));
+    begun = covers_better T (set ls p (Settled ride)) ms (start q.from q.minute) _ _ better (λ k s lo hi e g. settle_leaves k _ (closed.begun k s lo hi e g));
     covered = λ k prior r₂ e g. ⊎_elim
         (λ (same, st-is).
-        let sailing : r ≡ r₂ = same-sailing T p r r₂ stands (ap (place_at T) (sym same) ∙ g) in
+        let sailing : r ≡ r₂ = same_sailing T p r r₂ stands (ap (place_at T) (sym same) ∙ g) in
         let C : Sailing → Ride → Type 0 = λ x y. Covers T ms (after T q.extra x y.arrives) 0 (length T.places) in
         subst (λ y. C r₂ y) (sym st-is) (subst (λ x. C x ride) sailing covers))
-        (λ old. covers-better T (set ls p (Settled ride)) ms (after T q.extra r₂ prior.arrives) _ _ better (λ j s lo hi e₂ g₂. settle_leaves j _ (closed.covered k prior r₂ old g j s lo hi e₂ g₂)))
-        (settled-cases ms better k prior e);
+        (λ old. covers_better T (set ls p (Settled ride)) ms (after T q.extra r₂ prior.arrives) _ _ better (λ j s lo hi e₂ g₂. settle_leaves j _ (closed.covered k prior r₂ old g j s lo hi e₂ g₂)))
+        (settled_cases ms better k prior e);
     away = λ k prior r₂ e g to. ⊎_elim
-        (λ (same, st-is). away (ap (λ x. x.to) (same-sailing T p r r₂ stands (ap (place_at T) (sym same) ∙ g)) ∙ to))
+        (λ (same, st-is). away (ap (λ x. x.to) (same_sailing T p r r₂ stands (ap (place_at T) (sym same) ∙ g)) ∙ to))
         (λ old. closed.away k prior r₂ old g to)
-        (settled-cases ms better k prior e);
+        (settled_cases ms better k prior e);
   }
 
 -- how many are settled
-pub settled-le : (ls : List Status) → settled ls ≤ length ls
-settled-le [] = omega arith
-settled-le (Unseen ∷ ls) = omega (arith, settled-le ls)
-settled-le (Waiting ride ∷ ls) = omega (arith, settled-le ls)
-settled-le (Settled ride ∷ ls) = omega (arith, settled-le ls)
+pub settled_le : (ls : List Status) → settled ls ≤ length ls
+settled_le [] = omega arith
+settled_le (Unseen ∷ ls) = omega (arith, settled_le ls)
+settled_le (Waiting ride ∷ ls) = omega (arith, settled_le ls)
+settled_le (Settled ride ∷ ls) = omega (arith, settled_le ls)
 
 pub settled-set : (ls : List Status) (p : ℕ) (l : Status) → p < length ls → settled (set ls p l) + one (look ls p) ≡ settled ls + one l
 settled-set [] p l h = absurd (omega arith)
@@ -219,11 +219,11 @@ settled-set (x ∷ ls) zero l h = omega arith
 settled-set (x ∷ ls) (suc p) l h = omega (arith, settled-set ls p l (omega arith))
 
 -- a settled place more
-pub settled-more : (ls : List Status) (p : ℕ) (ride : Ride) → p < length ls → look ls p ≡ Waiting ride → (settled (set ls p (Settled ride)) ≡ settled ls + 1) × (settled ls < length ls)
-settled-more ls p ride h e =
+pub settled_more : (ls : List Status) (p : ℕ) (ride : Ride) → p < length ls → look ls p ≡ Waiting ride → (settled (set ls p (Settled ride)) ≡ settled ls + 1) × (settled ls < length ls)
+settled_more ls p ride h e =
     let a = settled-set ls p (Settled ride) h in
     let b : one (look ls p) ≡ 0 = ap one e in
-    let c = settled-le (set ls p (Settled ride)) in
+    let c = settled_le (set ls p (Settled ride)) in
     let d = length-set ls p (Settled ride) in
     (omega arith, omega arith)
 

@@ -9,7 +9,7 @@ use Rattle.timetable.specs.Classes.{figures, class_minutes, minutes_for}
 use Rattle.timetable.specs.Timetables.{Timetable}
 use Rattle.timetable.proofs.Told.{asked_ok, asked_default}
 use Rattle.journey.specs.Journeys.{start}
-use Rattle.journey.proofs.Follows.{leads-forward}
+use Rattle.journey.proofs.Follows.{leads_forward}
 use Rattle.routing.specs.declared.ride.Ride.{Ride}
 use Rattle.routing.specs.declared.trip.Trip.{Trip}
 use Rattle.routing.specs.Labels.{Status, ride_of}
@@ -18,14 +18,14 @@ use Rattle.routing.specs.Limits.{last_minute, latest}
 use Rattle.routing.specs.Turns.{Arrival}
 use Rattle.routing.specs.Walk.{Written}
 use Rattle.routing.specs.Route.{cause_of, Best}
-use Rattle.routing.proofs.Steps.{settled-le}
+use Rattle.routing.proofs.Steps.{settled_le}
 
 module _ (T : Timetable) (q : Trip) (ls : List Status) (last : ℕ) (ride : Ride) (arrival : Arrival T q ls last ride) where
-  pub arrival-depth : ride.depth ≤ length T.places
-  arrival-depth = omega (arith, (arrival.inv.low last ride arrival.stands).1, settled-le ls, arrival.sized)
+  pub arrival_depth : ride.depth ≤ length T.places
+  arrival_depth = omega (arith, (arrival.inv.low last ride arrival.stands).1, settled_le ls, arrival.sized)
 
-  pub arrival-bound : ride.arrives ≤ latest
-  arrival-bound = omega (arith, (arrival.inv.made last ride (ap ride_of arrival.stands)).bound, arrival-depth, arrival.lawful.few-places)
+  pub arrival_bound : ride.arrives ≤ latest
+  arrival_bound = omega (arith, (arrival.inv.made last ride (ap ride_of arrival.stands)).bound, arrival_depth, arrival.lawful.few_places)
 
 -- what is told of the trip of a query
 pub best : (T : Timetable) (q : Query) (ls : List Status) (last : ℕ) (ride : Ride) → Arrival T (trip_of q) ls last ride → (old new : List Leg)
@@ -35,8 +35,8 @@ best T q ls last ride arrival old new w rest = record {
   journey = w.makes;
   earliest = arrival.soonest;
   apart = w.apart;
-  inside = arrival-depth T (trip_of q) ls last ride arrival;
-  bound = arrival-bound T (trip_of q) ls last ride arrival;
+  inside = arrival_depth T (trip_of q) ls last ride arrival;
+  bound = arrival_bound T (trip_of q) ls last ride arrival;
   rest = rest;
 }
 
@@ -49,7 +49,7 @@ trip_is q minute extra e f = λ i. record { from = q.from; to = q.to; minute = e
 pub stays : (T : Timetable) (q : Query) (legs : List Leg) (m : ℕ) → m ≡ q.minute → q.minute ≤ last_minute → q.from ≡ q.to → Best T q legs legs (record { arrival = m; legs = 0 })
 stays T q legs m m-is small same = record {
   journey = (same, sym m-is);
-  earliest = λ others b j. omega (arith, leads-forward T (class_minutes q.class) (start q.from q.minute) others q.to b (λ s. omega arith) j);
+  earliest = λ others b j. omega (arith, leads_forward T (class_minutes q.class) (start q.from q.minute) others q.to b (λ s. omega arith) j);
   apart = tt;
   inside = omega arith;
   bound = omega arith;
@@ -65,9 +65,9 @@ pub record Fine (q : Query) (quays places labels legs items : ℕ) : Type 0 wher
   pub to : q.to < quays
   pub minute : q.minute ≤ last_minute
   pub class : q.class < length figures
-  pub few-labels : places ≤ labels
-  pub few-legs : places ≤ legs
-  pub few-items : places ≤ items
+  pub few_labels : places ≤ labels
+  pub few_legs : places ≤ legs
+  pub few_items : places ≤ items
 
 -- nothing stands against the query
 pub fine : (q : Query) (quays places labels legs items : ℕ) → cause_of q quays places labels legs items ≡ None → Fine q quays places labels legs items
@@ -79,7 +79,7 @@ fine q quays places labels legs items h =
     let (e, h₅) = passes (leb places labels) _ _ h₄ in
     let (f, h₆) = passes (leb places legs) _ _ h₅ in
     let (g, h₇) = passes (leb places items) _ _ h₆ in
-    record { from = ltb-true _ _ a; to = ltb-true _ _ b; minute = leb-true _ _ c; class = ltb-true _ _ d; few-labels = leb-true _ _ e; few-legs = leb-true _ _ f; few-items = leb-true _ _ g }
+    record { from = ltb-true _ _ a; to = ltb-true _ _ b; minute = leb-true _ _ c; class = ltb-true _ _ d; few_labels = leb-true _ _ e; few_legs = leb-true _ _ f; few_items = leb-true _ _ g }
 
 -- what the numbers that were read tell of the query
 pub accepted : (T : Timetable) (q : Query) (labels legs : ℕ) (ks : List (Option ℕ)) (a b e : ℕ) → a ≡ length T.changes → b ≡ length T.places → e ≡ length ks
@@ -92,10 +92,10 @@ accepted T q labels legs ks a b e ea eb ee h =
     (none, fine q (length T.changes) (length T.places) labels legs (length ks) none)
 
 -- the minutes that a class was told to add, and those of a class that there is not
-pub class-told : (c m : ℕ) → Ok m ≡ minutes_for c → m ≡ class_minutes c
+pub class_told : (c m : ℕ) → Ok m ≡ minutes_for c → m ≡ class_minutes c
 unfolding class_minutes
-class-told c m h = (asked_ok figures c 0 m NoClass h).1
+class_told c m h = (asked_ok figures c 0 m NoClass h).1
 
-pub class-absent : (c : ℕ) (e : Refusal) → Err e ≡ minutes_for c → 0 ≡ class_minutes c
+pub class_absent : (c : ℕ) (e : Refusal) → Err e ≡ minutes_for c → 0 ≡ class_minutes c
 unfolding class_minutes
-class-absent c e h = asked_default figures c 0 NoClass e h
+class_absent c e h = asked_default figures c 0 NoClass e h

@@ -17,21 +17,21 @@ use Rattle.routing.specs.Invariants.{Inv, Covers, Better}
 use Rattle.routing.specs.Origins.{quay_of, stand_of}
 use Rattle.routing.specs.Relaxing.{Ready, Through, late, Opened}
 use Rattle.routing.specs.Turns.{Going, Settles, Arrival}
-use Rattle.routing.proofs.Best.{journey-sooner}
-use Rattle.routing.proofs.Links.{linked-set}
-use Rattle.routing.proofs.Opens.{opened-later}
-use Rattle.routing.proofs.Steps.{settle_inv, settle_closed, settle_leaves, settled-more, one_betters}
+use Rattle.routing.proofs.Best.{journey_sooner}
+use Rattle.routing.proofs.Links.{linked_set}
+use Rattle.routing.proofs.Opens.{opened_later}
+use Rattle.routing.proofs.Steps.{settle_inv, settle_closed, settle_leaves, settled_more, one_betters}
 
 -- what is spanned is all that leaves a quay
-pub span-all : (T : Timetable) (v : ℕ) (span : Span) → Lawful T → span ≡ span_at T v → (p : ℕ) (s : Sailing) → place_at T p ≡ Some s → s.from ≡ v → (span.start ≤ p) × (p < span.end)
-span-all T v span lawful is p s e f =
+pub span_all : (T : Timetable) (v : ℕ) (span : Span) → Lawful T → span ≡ span_at T v → (p : ℕ) (s : Sailing) → place_at T p ≡ Some s → s.from ≡ v → (span.start ≤ p) × (p < span.end)
+span_all T v span lawful is p s e f =
     subst (λ x. (x.start ≤ p) × (p < x.end)) (ap (span_at T) f ∙ sym is) (lawful.spanned p s e)
 
-pub span-order : (T : Timetable) (v : ℕ) (span : Span) → Lawful T → span ≡ span_at T v → span.start ≤ span.end
-span-order T v span lawful is = subst (λ x. x.start ≤ x.end) (sym is) (lawful.span-order v)
+pub span_order : (T : Timetable) (v : ℕ) (span : Span) → Lawful T → span ≡ span_at T v → span.start ≤ span.end
+span_order T v span lawful is = subst (λ x. x.start ≤ x.end) (sym is) (lawful.span_order v)
 
-pub span-end : (T : Timetable) (v : ℕ) (span : Span) → Lawful T → span ≡ span_at T v → span.end ≤ length T.places
-span-end T v span lawful is = subst (λ x. x.end ≤ length T.places) (sym is) (lawful.span-end v)
+pub span_end : (T : Timetable) (v : ℕ) (span : Span) → Lawful T → span ≡ span_at T v → span.end ≤ length T.places
+span_end T v span lawful is = subst (λ x. x.end ≤ length T.places) (sym is) (lawful.span_end v)
 
 -- all places from those of the span
 pub whole : (T : Timetable) (q : Trip) (o : Origin) (ls ms : List Status) (ks : List (Option ℕ)) (span : Span) → span ≡ span_at T (quay_of o)
@@ -39,21 +39,21 @@ pub whole : (T : Timetable) (q : Trip) (o : Origin) (ls ms : List Status) (ks : 
 whole T q o ls ms ks span is t = record {
   ready = t.ready;
   better = t.better;
-  covers = λ p s lo hi e f. let h = span-all T (quay_of o) span t.ready.fair.lawful is p s e f in t.covers p s h.0 h.1 e f;
+  covers = λ p s lo hi e f. let h = span_all T (quay_of o) span t.ready.fair.lawful is p s e f in t.covers p s h.0 h.1 e f;
 }
 
 -- the quay of an origin is one of the timetable's
 pub origin_quay : (T : Timetable) (q : Trip) (o : Origin) (ls : List Status) (ks : List (Option ℕ)) → Ready T q o ls ks → quay_of o < length T.changes
 origin_quay T q (Start quay m) ls ks ready = omega (arith, ready.rooted.0, ready.fair.from)
-origin_quay T q (Via k ride w) ls ks ready = (ready.fair.lawful.within k ride.sailing ready.rooted.1).to-quay
+origin_quay T q (Via k ride w) ls ks ready = (ready.fair.lawful.within k ride.sailing ready.rooted.1).to_quay
 
 some_key : (a b : ℕ) → ◌≡◌ {A = Option ℕ} (Some a) (Some b) → a ≡ b
 some_key a b e = cc
 
-waits-at : (l : Status) (k : ℕ) → Some k ≡ key_of l → (ride : Ride) × (l ≡ Waiting ride) × (k ≡ ride.arrives)
-waits-at Unseen k e = let z : ◌≡◌ {A = ℕ} 0 1 = cc in absurd (omega arith)
-waits-at (Waiting ride) k e = (ride, refl, some_key k ride.arrives e)
-waits-at (Settled ride) k e = let z : ◌≡◌ {A = ℕ} 0 1 = cc in absurd (omega arith)
+waits_at : (l : Status) (k : ℕ) → Some k ≡ key_of l → (ride : Ride) × (l ≡ Waiting ride) × (k ≡ ride.arrives)
+waits_at Unseen k e = let z : ◌≡◌ {A = ℕ} 0 1 = cc in absurd (omega arith)
+waits_at (Waiting ride) k e = (ride, refl, some_key k ride.arrives e)
+waits_at (Settled ride) k e = let z : ◌≡◌ {A = ℕ} 0 1 = cc in absurd (omega arith)
 
 -- nothing waits in the line, so no place waits
 pub none_first : (ls : List Status) (ks : List (Option ℕ)) → Linked ls ks → ((i k : ℕ) → Waits ks i k → ⊥) → (p : ℕ) (ride : Ride) → look ls p ≡ Waiting ride → ⊥
@@ -61,10 +61,10 @@ none_first ls ks linked none p ride e = none p ride.arrives (linked.1 p ∙ ap k
 
 module _ (ls : List Status) (ks : List (Option ℕ)) (p key : ℕ) (linked : Linked ls ks) (f : First ks p key) where
   pub found : (ride : Ride) × (look ls p ≡ Waiting ride) × (key ≡ ride.arrives)
-  found = waits-at (look ls p) key (sym f.waits ∙ linked.1 p)
+  found = waits_at (look ls p) key (sym f.waits ∙ linked.1 p)
 
-  pub first-inside : p < length ls
-  first-inside = elim (cases_lt p (length ls)) [
+  pub first_inside : p < length ls
+  first_inside = elim (cases_lt p (length ls)) [
     | inl h ↦ h
     | inr h ↦ let n : look ls p ≡ Unseen = get_or_past ls p Unseen h in
         let w = found.1 in
@@ -73,30 +73,30 @@ module _ (ls : List Status) (ks : List (Option ℕ)) (p key : ℕ) (linked : Lin
 
   pub settle_first_lem : (ride : Ride) → look ls p ≡ Waiting ride → (ms : List (Option ℕ)) → ms ≡ set ks p None → Settles ls p ride (set ls p (Settled ride)) ms
   settle_first_lem ride e ms is = record {
-    inside = first-inside;
+    inside = first_inside;
     waits = e;
     first = λ k other w.
         let (ride₂, e₂, at) = found in
-        let same : ride₂ ≡ ride = same-waits ride₂ ride (sym e₂ ∙ e) in
+        let same : ride₂ ≡ ride = same_waits ride₂ ride (sym e₂ ∙ e) in
         let at₂ : key ≡ ride.arrives = at ∙ ap (λ x. x.arrives) same in
         omega (arith, f.least k other.arrives (linked.1 k ∙ ap key_of w));
     after = refl;
-    linked = subst (λ ns. Linked (set ls p (Settled ride)) ns) (sym is) (linked-set ls ks p (Settled ride) first-inside linked);
+    linked = subst (λ ns. Linked (set ls p (Settled ride)) ns) (sym is) (linked_set ls ks p (Settled ride) first_inside linked);
   }
     where
-      same-waits : (a b : Ride) → Waiting a ≡ Waiting b → a ≡ b
-      same-waits a b e = cc
+      same_waits : (a b : Ride) → Waiting a ≡ Waiting b → a ≡ b
+      same_waits a b e = cc
 
-pub settled-better : (ls ms : List Status) → length ls ≡ length ms → Better ls ms → settled ms ≡ settled ls
-settled-better [] [] e b = refl
-settled-better [] (m ∷ ms) e b = absurd (omega arith)
-settled-better (l ∷ ls) [] e b = absurd (omega arith)
-settled-better (l ∷ ls) (m ∷ ms) e b = omega (arith, one_betters l m (b 0), settled-better ls ms (omega arith) (λ p. b (suc p)))
+pub settled_better : (ls ms : List Status) → length ls ≡ length ms → Better ls ms → settled ms ≡ settled ls
+settled_better [] [] e b = refl
+settled_better [] (m ∷ ms) e b = absurd (omega arith)
+settled_better (l ∷ ls) [] e b = absurd (omega arith)
+settled_better (l ∷ ls) (m ∷ ms) e b = omega (arith, one_betters l m (b 0), settled_better ls ms (omega arith) (λ p. b (suc p)))
 
 module _ (T : Timetable) (q : Trip) (ls : List Status) (ks : List (Option ℕ)) (ps : List (Option Span)) (going : Going T q ls ks ps) where
-  pub none-waits : ((p : ℕ) (ride : Ride) → look ls p ≡ Waiting ride → ⊥) → Unmade T q
-  none-waits none legs a j =
-      let s = journey-sooner T q ls going.floor (settled ls) going.inv going.closed legs a going.apart j in
+  pub none_waits : ((p : ℕ) (ride : Ride) → look ls p ≡ Waiting ride → ⊥) → Unmade T q
+  none_waits none legs a j =
+      let s = journey_sooner T q ls going.floor (settled ls) going.inv going.closed legs a going.apart j in
       none s.place s.ride s.waits
 
   module _ (p : ℕ) (ride : Ride) (ms : List Status) (ks' : List (Option ℕ)) (settles : Settles ls p ride ms ks') where
@@ -104,22 +104,22 @@ module _ (T : Timetable) (q : Trip) (ls : List Status) (ks : List (Option ℕ)) 
     stands = (going.inv.made p ride (ap ride_of settles.waits)).stands
 
     more : (settled (set ls p (Settled ride)) ≡ settled ls + 1) × (settled ls < length ls)
-    more = settled-more ls p ride settles.inside settles.waits
+    more = settled_more ls p ride settles.inside settles.waits
 
-    inv-after : Inv T q ms ride.arrives (settled ms)
-    inv-after =
+    inv_after : Inv T q ms ride.arrives (settled ms)
+    inv_after =
         let i = settle_inv T q ls p going.floor (settled ls) ride settles.inside going.inv settles.waits settles.first in
         let j : Inv T q (set ls p (Settled ride)) ride.arrives (settled (set ls p (Settled ride))) = subst (λ c. Inv T q (set ls p (Settled ride)) ride.arrives c) (sym more.0) i in
         subst (λ xs. Inv T q xs ride.arrives (settled xs)) (sym settles.after) j
 
-    sized-after : length ms ≡ length T.places
-    sized-after = ap length settles.after ∙ length-set ls p (Settled ride) ∙ going.sized
+    sized_after : length ms ≡ length T.places
+    sized_after = ap length settles.after ∙ length-set ls p (Settled ride) ∙ going.sized
 
     settled_here : look ms p ≡ Settled ride
     settled_here = ap (λ xs. look xs p) settles.after ∙ get_or-set_same ls p (Settled ride) Unseen settles.inside
 
     pub opened_after : Opened T q ms ps ride.arrives
-    opened_after = opened-later T q ms ps going.floor ride.arrives (going.inv.high p ride settles.waits).0
+    opened_after = opened_later T q ms ps going.floor ride.arrives (going.inv.high p ride settles.waits).0
         (λ v span e. let (h, covers) = going.opened v span e in (
           h,
           subst (λ xs. Covers T xs (late T q v going.floor) 0 (length T.places)) (sym settles.after)
@@ -129,22 +129,22 @@ module _ (T : Timetable) (q : Trip) (ls : List Status) (ks : List (Option ℕ)) 
     pub arrived : ride.sailing.to ≡ q.to → Arrival T q ms p ride
     arrived to = record {
       floor = ride.arrives;
-      inv = inv-after;
-      sized = sized-after;
+      inv = inv_after;
+      sized = sized_after;
       lawful = going.fair.lawful;
       stands = settled_here;
       to = to;
       soonest = λ legs b j.
-          let w = journey-sooner T q ls going.floor (settled ls) going.inv going.closed legs b going.apart j in
+          let w = journey_sooner T q ls going.floor (settled ls) going.inv going.closed legs b going.apart j in
           omega (arith, settles.first w.place w.ride w.waits, w.arrives);
     }
 
     pub onward : (w : ℕ) → w ≡ change_at T ride.sailing.to + q.extra → Ready T q (Via p ride w) ms ks'
     onward w e = record {
       fair = going.fair;
-      sized = sized-after;
+      sized = sized_after;
       linked = settles.linked;
-      inv = inv-after;
+      inv = inv_after;
       rooted = (settled_here, stands, e);
     }
 
@@ -166,5 +166,5 @@ module _ (T : Timetable) (q : Trip) (ls : List Status) (ks : List (Option ℕ)) 
             many = omega (arith, going.many);
             opened = opened;
           },
-          settled-better ms ns (sized-after ∙ sym t.ready.sized) t.better ∙ ap settled settles.after ∙ more.0,
+          settled_better ms ns (sized_after ∙ sym t.ready.sized) t.better ∙ ap settled settles.after ∙ more.0,
         )

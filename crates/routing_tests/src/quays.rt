@@ -1,7 +1,7 @@
 //! A book of four quays over lent sailings.
 ghost use Rattle.std.specs.Prelude.{◌≡◌};
 ghost use Rattle.routing_tests.specs.Books.{content_of, meant};
-ghost use Rattle.routing_tests.specs.Fair.{meant-lawful};
+ghost use Rattle.routing_tests.specs.Fair.{meant_lawful};
 
 use timetable::book::Book;
 use timetable::refusal::Refusal;
@@ -36,7 +36,7 @@ fn content(s: Sailing) -> Option<Sailing>
 impl Book for FourQuays<'_> {
     ghost meaning = { λ b. meant b.changes b.sailings.now };
 
-    ghost lawful = { λ b. meant-lawful b.changes b.sailings.now };
+    ghost lawful = { λ b. meant_lawful b.changes b.sailings.now };
 
     fn quays(&self) -> u16 {
         4

@@ -3,9 +3,9 @@ use Rattle.std.proofs.Common.{◌≡◌, ℕ, zero, suc, ◌+◌, ◌≤◌, Boo
 use Rattle.std.proofs.lemmas.Bool.{cond-true, cond-false, cond_both}
 use Rattle.tables.specs.Lists.{many}
 
-pub many-none : (f : ℕ → Bool) → many f 0 ≡ 0
+pub many_none : (f : ℕ → Bool) → many f 0 ≡ 0
 unfolding many
-many-none f = refl
+many_none f = refl
 
 pub many_in : (f : ℕ → Bool) (n : ℕ) → f n ≡ true → many f (n + 1) ≡ many f n + 1
 unfolding many
@@ -16,11 +16,11 @@ unfolding many
 many_out f n h = ap (many f) (add-one n) ∙ cond-false (f n) (suc (many f n)) (many f n) h
 
 -- tests that pass the same numbers pass as many
-pub many-same : (f g : ℕ → Bool) → ((k : ℕ) → f k ≡ g k) → (n : ℕ) → many f n ≡ many g n
+pub many_same : (f g : ℕ → Bool) → ((k : ℕ) → f k ≡ g k) → (n : ℕ) → many f n ≡ many g n
 unfolding many
-many-same f g h zero = refl
-many-same f g h (suc n) =
-    ap₂ (λ (b : Bool) (m : ℕ). cond b (suc m) m) (h n) (many-same f g h n)
+many_same f g h zero = refl
+many_same f g h (suc n) =
+    ap₂ (λ (b : Bool) (m : ℕ). cond b (suc m) m) (h n) (many_same f g h n)
 
 pub many-most : (f : ℕ → Bool) (n : ℕ) → many f n ≤ n
 unfolding many

@@ -22,9 +22,9 @@ without_more x xs i h n =
     ap (without x) (take_more xs i 0 h) ∙ without-append x (take i xs) (get_or xs i 0 ∷ [])
     ∙ ap (λ l. without x (take i xs) ++ l) (cond-false _ _ _ (ne_eqb x (get_or xs i 0) (λ e. n (sym e))))
 
-pub without-same : (x : ℕ) (xs : List ℕ) (i : ℕ) → i < length xs → get_or xs i 0 ≡ x →
+pub without_same : (x : ℕ) (xs : List ℕ) (i : ℕ) → i < length xs → get_or xs i 0 ≡ x →
     without x (take (i + 1) xs) ≡ without x (take i xs)
-without-same x xs i h e =
+without_same x xs i h e =
     ap (without x) (take_more xs i 0 h) ∙ without-append x (take i xs) (get_or xs i 0 ∷ [])
     ∙ ap (λ l. without x (take i xs) ++ l) (cond-true _ _ _ (eq-eqb x (get_or xs i 0) (sym e))) ∙ append-nil _
 
@@ -48,4 +48,4 @@ pub moved_drop : (x : ℕ) (old cur new : List ℕ) (k k' i : ℕ) → Moved x o
     get_or cur i 0 ≡ x → new ≡ cur → k' ≡ k → Moved x old new k' (i + 1)
 moved_drop x old cur new k k' i m ho q e f =
     let read = m.2 i (omega arith) in
-    rw (e, f) (omega arith, m.1 ∙ sym (without-same x old i ho (sym read ∙ q)), λ j h. m.2 j (omega arith))
+    rw (e, f) (omega arith, m.1 ∙ sym (without_same x old i ho (sym read ∙ q)), λ j h. m.2 j (omega arith))

@@ -4,11 +4,11 @@ use Rattle.std.proofs.lemmas.Bool.{true≢false, false≢true, cases_Bool, cond-
 use Rattle.timetable.specs.declared.sailing.Sailing.{Sailing}
 use Rattle.timetable.specs.Timetables.{Timetable, place_at}
 use Rattle.timetable.specs.Hiding.{hide, blanked}
-use Rattle.timetable.proofs.HidingLemmas.{place-blanked}
+use Rattle.timetable.proofs.HidingLemmas.{place_blanked}
 use Rattle.thinning.specs.Margins.{passes}
 use Rattle.thinning.specs.Dominance.{Beats, outranks, over_from, some_below, dominated}
 use Rattle.thinning.specs.Thinning.{Picks}
-use Rattle.thinning.proofs.Tested.{outranks-parts, outranks-from, dominance}
+use Rattle.thinning.proofs.Tested.{outranks_parts, outranks_from, dominance}
 use Rattle.thinning.proofs.Orders.{outranks_trans, top}
 
 -- what stands at one place outranks what stands at another
@@ -24,14 +24,14 @@ pair_trans t p q r a b None ea eb ec x y = y
 pair_trans t p q r a None (Some R) ea eb ec x y = absurd (false≢true x)
 pair_trans t p q r None (Some Q) (Some R) ea eb ec x y = x
 pair_trans t p q r (Some P) (Some Q) (Some R) ea eb ec x y =
-    outranks-from t p P r R (outranks_trans t p P q Q r R
+    outranks_from t p P r R (outranks_trans t p P q Q r R
     (λ e. same_some (place_at t p) P R ea (ap (λ n. place_at t n) e ∙ ec))
-    (outranks-parts t p P q Q x) (outranks-parts t q Q r R y))
+    (outranks_parts t p P q Q x) (outranks_parts t q Q r R y))
 
 pair_irrefl : (t : Timetable) (p : ℕ) (a : Option Sailing) → pair_over t p a p a ≡ false
 pair_irrefl t p None = refl
 pair_irrefl t p (Some P) =
-    ⊎_elim (λ (e : outranks t p P p P ≡ true). absurd ((outranks-parts t p P p P e).wins.apart refl)) (λ (e : outranks t p P p P ≡ false). e) (cases_Bool (outranks t p P p P))
+    ⊎_elim (λ (e : outranks t p P p P ≡ true). absurd ((outranks_parts t p P p P e).wins.apart refl)) (λ (e : outranks t p P p P ≡ false). e) (cases_Bool (outranks t p P p P))
 
 pub none_below : (f : ℕ → Bool) (n : ℕ) → ((p : ℕ) → p < n → f p ≡ false) → some_below f n ≡ false
 none_below f zero h = refl
@@ -63,11 +63,11 @@ descent t q Q e = ⊎_elim (λ none. inl (undominated t q Q e none)) (λ some. i
       sailing = P;
       stands = f;
       free = undominated t some.0 P f some.3;
-      wins = (outranks-parts t some.0 P q Q (subst₂ (λ (a b : Option Sailing). pair_over t some.0 a q b ≡ true) f e some.2)).wins;
+      wins = (outranks_parts t some.0 P q Q (subst₂ (λ (a b : Option Sailing). pair_over t some.0 a q b ≡ true) f e some.2)).wins;
     }
 
 -- what is not dominated stands where dominated sailings only are blanked
 pub stays : (t : Timetable) (f : ℕ → Sailing → Bool) → Picks f t → (p : ℕ) (P : Sailing) → place_at t p ≡ Some P → dominated t p P ≡ false → place_at (hide f t) p ≡ Some P
 stays t f sub p P e free =
-    place-blanked f t p ∙ ap (blanked (f p)) e ∙ cond-false (f p P) None (Some P)
+    place_blanked f t p ∙ ap (blanked (f p)) e ∙ cond-false (f p P) None (Some P)
     (⊎_elim (λ (h : f p P ≡ true). absurd (true≢false (sym ((dominance t p P).1 (sub p P e h)) ∙ free))) (λ (h : f p P ≡ false). h) (cases_Bool (f p P)))

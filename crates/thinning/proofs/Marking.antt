@@ -3,7 +3,7 @@ use Rattle.std.proofs.Common.{◌≡◌, ℕ, zero, suc, ◌+◌, ◌<◌, ◌�
 use lib.ListN.{length-replicate}
 use Rattle.std.proofs.lemmas.Bool.{cases_lt}
 use Rattle.tables.specs.Lists.{many}
-use Rattle.tables.proofs.Counts.{many-none, many_in, many_out}
+use Rattle.tables.proofs.Counts.{many_none, many_in, many_out}
 
 -- places below i are marked by the test, the others not, and k are marked
 pub record Marking (f : ℕ → Bool) (xs : List Bool) (i k : ℕ) : Type 0 where
@@ -23,7 +23,7 @@ marking_starts f xs e = rw e (record {
   wide = length-replicate 3072 false;
   done = λ p h. absurd (omega arith);
   rest = λ p h. all_false 3072 p;
-  count = sym (many-none f);
+  count = sym (many_none f);
   few = omega arith;
 })
 

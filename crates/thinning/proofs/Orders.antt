@@ -4,20 +4,20 @@ use Rattle.std.proofs.lemmas.Bool.{cases_lt, cases_Bool, true≢false}
 use Rattle.timetable.specs.declared.sailing.Sailing.{Sailing}
 use Rattle.timetable.specs.Times.{day, next}
 use Rattle.timetable.specs.Timetables.{Timetable}
-use Rattle.timetable.proofs.Laws.{next-late, next-leaves, next-least}
+use Rattle.timetable.proofs.Laws.{next-late, next_leaves, next_least}
 use Rattle.thinning.specs.Margins.{margin_before}
 use Rattle.thinning.specs.Dominance.{Beats, Outranks}
 
 -- what leaves so early leaves as early some days later
 pub days_later : (s : Sailing) (u v days : ℕ) → u ≤ day * days + v → next s u ≤ day * days + next s v
 days_later s u v days h =
-    let l = next-leaves s v in
-    next-least s u (day * days + next s v) (record { on = days + l.on; minute = omega (arith, l.minute) }) (omega (arith, next-late s v))
+    let l = next_leaves s v in
+    next_least s u (day * days + next s v) (record { on = days + l.on; minute = omega (arith, l.minute) }) (omega (arith, next-late s v))
 
 pub beats_trans : (t : Timetable) (p : ℕ) (P : Sailing) (q : ℕ) (Q : Sailing) (r : ℕ) (R : Sailing) →
     Beats t p P q Q → Beats t q Q r R → (p ≡ r → ⊥) → Beats t p P r R
 beats_trans t p P q Q r R a b ne =
-    let l = next-leaves Q (R.dep + margin_before t R) in
+    let l = next_leaves Q (R.dep + margin_before t R) in
     let y = next-late Q (R.dep + margin_before t R) in
     let s = days_later P (R.dep + margin_before t R) (Q.dep + margin_before t Q) l.on (omega (arith, l.minute)) in
     record {

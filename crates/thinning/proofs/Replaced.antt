@@ -8,26 +8,26 @@ use Rattle.timetable.specs.Classes.{most, class_minutes}
 use Rattle.timetable.specs.Times.{length_of, next, Leaves, continues}
 use Rattle.timetable.specs.Timetables.{Timetable, place_at, change_at}
 use Rattle.timetable.specs.Hiding.{hide}
-use Rattle.timetable.proofs.Laws.{next-late, next-leaves, class-short, continues-means}
+use Rattle.timetable.proofs.Laws.{next-late, next_leaves, class_short, continues_means}
 use Rattle.journey.specs.Journeys.{Stand, start, after, wait, Leads, Journey}
 use Rattle.thinning.specs.Margins.{margin_before, margin_after}
 use Rattle.thinning.specs.Dominance.{Beats, dominated}
 use Rattle.thinning.specs.Thinning.{Picks, By, Keeps, ThinningLaws}
-use Rattle.thinning.proofs.Tested.{margin_laws, beats-parts, beats-from, outranks-parts, outranks-from, dominance}
+use Rattle.thinning.proofs.Tested.{margin_laws, beats_parts, beats_from, outranks_parts, outranks_from, dominance}
 use Rattle.thinning.proofs.Orders.{days_later}
 use Rattle.thinning.proofs.Descent.{Better, descent, stays}
 
-before-is : (t : Timetable) (s r : Sailing) (k : ℕ) → place_at t k ≡ Some r → continues s r ≡ true → margin_before t s ≡ change_at t s.from + most
-before-is t s r k e h = (margin_laws t s).before-some k r e ((continues-means s r).0 h)
+before_is : (t : Timetable) (s r : Sailing) (k : ℕ) → place_at t k ≡ Some r → continues s r ≡ true → margin_before t s ≡ change_at t s.from + most
+before_is t s r k e h = (margin_laws t s).before_some k r e ((continues_means s r).0 h)
 
 after_is : (t : Timetable) (s r : Sailing) (k : ℕ) → place_at t k ≡ Some s → continues s r ≡ true → margin_after t r ≡ change_at t r.to + most
-after_is t s r k e h = (margin_laws t r).after-some k s e ((continues-means s r).0 h)
+after_is t s r k e h = (margin_laws t r).after_some k s e ((continues_means s r).0 h)
 
 wait-most : (t : Timetable) (extra : ℕ) (r s : Sailing) → wait t extra r s ≤ change_at t r.to + extra
 wait-most t extra r s = elim (continues s r) as (λ b. cond b 0 (change_at t r.to + extra) ≤ change_at t r.to + extra) [ true ↦ omega arith | false ↦ omega arith ]
 
-wait-on : (t : Timetable) (extra : ℕ) (r s : Sailing) → continues s r ≡ false → wait t extra r s ≡ change_at t r.to + extra
-wait-on t extra r s h = cond-false _ _ _ h
+wait_on : (t : Timetable) (extra : ℕ) (r s : Sailing) → continues s r ≡ false → wait t extra r s ≡ change_at t r.to + extra
+wait_on t extra r s h = cond-false _ _ _ h
 
 -- the new journey has come as far as the old one, no later: what could be boarded still can be, and so can what leaves later by the margin
 pub record Near (t : Timetable) (here there : Stand) : Type 0 where
@@ -49,12 +49,12 @@ near_after t extra hc k Q P m n e to le how = record {
       (λ (is : P ≡ Q). let w = ap (λ (y : Sailing). wait t extra y s) is in omega (arith, w, le))
       (λ (h : n + margin_after t Q ≤ m). let x = wait-most t extra P s in let g = ap (change_at t) to in ⊎_elim
       (λ (y : continues s Q ≡ true). let a = after_is t s Q j f y in omega (arith, h, a, g, x, hc))
-      (λ (y : continues s Q ≡ false). let o = wait-on t extra Q s y in omega (arith, o, g, x, le))
+      (λ (y : continues s Q ≡ false). let o = wait_on t extra Q s y in omega (arith, o, g, x, le))
       (cases_Bool (continues s Q)))
       how;
   other = λ j s S f at. let x = wait-most t extra P S in let g = ap (change_at t) to in let a = ap (change_at t) at in ⊎_elim
-      (λ (y : continues s Q ≡ true). let b = before-is t s Q k e y in omega (arith, b, g, a, x, le, hc))
-      (λ (y : continues s Q ≡ false). let o = wait-on t extra Q s y in omega (arith, o, g, x, le))
+      (λ (y : continues s Q ≡ true). let b = before_is t s Q k e y in omega (arith, b, g, a, x, le, hc))
+      (λ (y : continues s Q ≡ false). let o = wait_on t extra Q s y in omega (arith, o, g, x, le))
       (cases_Bool (continues s Q));
 }
 
@@ -97,7 +97,7 @@ module _ (t : Timetable) (f : ℕ → Sailing → Bool) (sub : Picks f t) (extra
       let P = b.sailing in
       let u = next P (l.leaves + margin_before t s) in
       let y = arrives t b.place P l.place s l.leaves b.wins boards.leaves in
-      add there b.place u P (stays t f sub b.place P b.stands b.free) (b.wins.from ∙ boards.quay ∙ sym n.quay) (next-leaves P _)
+      add there b.place u P (stays t f sub b.place P b.stands b.free) (b.wins.from ∙ boards.quay ∙ sym n.quay) (next_leaves P _)
       (omega (arith, n.other l.place s P boards.sailing boards.quay, boards.ready, next-late P (l.leaves + margin_before t s)))
       (replaced ls (after t extra s l.arrives) (after t extra P (u + length_of P))
       (near_after t extra hc l.place s P l.arrives (u + length_of P) boards.sailing b.wins.to (omega (arith, y, boards.arrives)) (inr (omega (arith, y, boards.arrives)))) r.2))
@@ -106,7 +106,7 @@ module _ (t : Timetable) (f : ℕ → Sailing → Bool) (sub : Picks f t) (extra
 by : (t : Timetable) (f : ℕ → Sailing → Bool) → Picks f t → (q : Query) (legs : List Leg) (a : ℕ) → Journey t q legs a → By (hide f t) q a
 by t f sub q legs a j =
     let here = start q.from q.minute in
-    let r = replaced t f sub (class_minutes q.class) (class-short q.class) q.to a legs here here (near_start t q.from q.minute) j in
+    let r = replaced t f sub (class_minutes q.class) (class_short q.class) q.to a legs here here (near_start t q.from q.minute) j in
     record { legs = r.legs; arrival = r.arrival; sooner = r.sooner; journey = r.leads }
 
 pub keeps : (t : Timetable) (f : ℕ → Sailing → Bool) → Picks f t → Keeps t (hide f t)
@@ -119,8 +119,8 @@ keeps t f sub = record {
 pub thinning_laws : ThinningLaws
 thinning_laws = record {
   margins = margin_laws;
-  beaten = λ t p P q Q. (beats-parts t p P q Q, beats-from t p P q Q);
-  outranked = λ t p P q Q. (outranks-parts t p P q Q, outranks-from t p P q Q);
+  beaten = λ t p P q Q. (beats_parts t p P q Q, beats_from t p P q Q);
+  outranked = λ t p P q Q. (outranks_parts t p P q Q, outranks_from t p P q Q);
   dominance = dominance;
   keeps = keeps;
 }

@@ -34,10 +34,10 @@ pub record Keeps (t u : Timetable) : Type 0 where
 
 -- the laws of margins: each is the change time and the largest figure of a class where a sailing could be sailed on, else none
 pub record MarginLaws (t : Timetable) (s : Sailing) : Type 0 where
-  pub before-some : (k : ℕ) (r : Sailing) → place_at t k ≡ Some r → Continues s r → margin_before t s ≡ change_at t s.from + most
-  pub before-none : ((k : ℕ) (r : Sailing) → place_at t k ≡ Some r → Continues s r → ⊥) → margin_before t s ≡ 0
-  pub after-some : (k : ℕ) (r : Sailing) → place_at t k ≡ Some r → Continues r s → margin_after t s ≡ change_at t s.to + most
-  pub after-none : ((k : ℕ) (r : Sailing) → place_at t k ≡ Some r → Continues r s → ⊥) → margin_after t s ≡ 0
+  pub before_some : (k : ℕ) (r : Sailing) → place_at t k ≡ Some r → Continues s r → margin_before t s ≡ change_at t s.from + most
+  pub before_none : ((k : ℕ) (r : Sailing) → place_at t k ≡ Some r → Continues s r → ⊥) → margin_before t s ≡ 0
+  pub after_some : (k : ℕ) (r : Sailing) → place_at t k ≡ Some r → Continues r s → margin_after t s ≡ change_at t s.to + most
+  pub after_none : ((k : ℕ) (r : Sailing) → place_at t k ≡ Some r → Continues r s → ⊥) → margin_after t s ≡ 0
 
 -- each test decides what it is named for, and hiding dominated sailings, all or some, keeps every arrival
 pub record ThinningLaws : Type 0 where

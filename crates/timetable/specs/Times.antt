@@ -39,9 +39,9 @@ pub record Departures (s : Sailing) : Type 0 where
 
 -- s goes on with the run of r, from the quay where r ends
 pub record Continues (s r : Sailing) : Type 0 where
-  pub same-run : s.run ≡ r.run
-  pub next-leg : s.leg ≡ r.leg + 1
-  pub same-quay : s.from ≡ r.to
+  pub same_run : s.run ≡ r.run
+  pub next_leg : s.leg ≡ r.leg + 1
+  pub same_quay : s.from ≡ r.to
 
 unfoldable pub continues : Sailing → Sailing → Bool
 continues s r = s.run == r.run && (s.leg == r.leg + 1 && s.from == r.to)

@@ -24,20 +24,20 @@ span_at t q = slice_index_or t.spans q nowhere
 
 -- a sailing within the limits of a book with this many quays
 pub record Within (quays : ℕ) (s : Sailing) : Type 0 where
-  pub from-quay : s.from < quays
-  pub to-quay : s.to < quays
+  pub from_quay : s.from < quays
+  pub to_quay : s.to < quays
   pub apart : s.to ≡ s.from → ⊥
-  pub dep-day : s.dep < day
-  pub arr-day : s.arr < day
+  pub dep_day : s.dep < day
+  pub arr_day : s.arr < day
 
 -- the limits of a book, and that each sailing stands within the span of the quay that it leaves
 pub record Lawful (t : Timetable) : Type 0 where
-  pub some-quay : 1 ≤ length t.changes
-  pub few-quays : length t.changes ≤ 256
-  pub few-places : length t.places ≤ 3072
+  pub some_quay : 1 ≤ length t.changes
+  pub few_quays : length t.changes ≤ 256
+  pub few_places : length t.places ≤ 3072
   pub as_many_spans : length t.spans ≡ length t.changes
-  pub change-day : (q : ℕ) → change_at t q < day
+  pub change_day : (q : ℕ) → change_at t q < day
   pub within : (p : ℕ) (s : Sailing) → place_at t p ≡ Some s → Within (length t.changes) s
-  pub span-order : (q : ℕ) → (span_at t q).start ≤ (span_at t q).end
-  pub span-end : (q : ℕ) → (span_at t q).end ≤ length t.places
+  pub span_order : (q : ℕ) → (span_at t q).start ≤ (span_at t q).end
+  pub span_end : (q : ℕ) → (span_at t q).end ≤ length t.places
   pub spanned : (p : ℕ) (s : Sailing) → place_at t p ≡ Some s → ((span_at t s.from).start ≤ p) × (p < (span_at t s.from).end)

@@ -71,19 +71,19 @@ same_ok : (x y : List ℕ) → ◌≡◌ {A = Result (List ℕ) Refusal} (Ok x) 
 same_ok x y h = cc
 
 -- numbers that are read stand there, up to the end
-pub read-stand : (line : List ℕ) (n at : ℕ) (vs : List ℕ) → numbers line at n ≡ Ok vs → Stand line at vs (length line)
-read-stand line zero at vs h = ⊎_elim yes no (ends_or_not line at)
+pub read_stand : (line : List ℕ) (n at : ℕ) (vs : List ℕ) → numbers line at n ≡ Ok vs → Stand line at vs (length line)
+read_stand line zero at vs h = ⊎_elim yes no (ends_or_not line at)
   where
     yes : (at ≡ length line) × (whole {X = List ℕ} line at [] ≡ Ok []) → Stand line at vs (length line)
     yes w = subst (λ xs. Stand line at xs (length line)) (same_ok [] vs (sym w.1 ∙ h)) w.0
 
     no : (at ≡ length line → ⊥) × (whole {X = List ℕ} line at [] ≡ Err Surplus) → Stand line at vs (length line)
     no w = absurd (ok_not vs Surplus (sym h ∙ w.1))
-read-stand line (suc n) at vs h =
+read_stand line (suc n) at vs h =
     ⊎_elim
     (λ w.
     let p = put_ok w.0.value (numbers line w.0.next n) vs (sym (goes_on line at n w.0 w.1) ∙ h) in
-    subst (λ xs. Stand line at xs (length line)) (sym p.is) (w.0.next, w.2, read-stand line n w.0.next p.rest p.came))
+    subst (λ xs. Stand line at xs (length line)) (sym p.is) (w.0.next, w.2, read_stand line n w.0.next p.rest p.came))
     (λ w. absurd (ok_not vs NoNumber (sym h ∙ stops line at n w.0)))
     (here_or_not line at)
 
@@ -100,11 +100,11 @@ pub record Few (line : List ℕ) (at n : ℕ) : Type 0 where
   pub fewer : length read < n
   pub none : (f : Field) → Numeral line end f → ⊥
 
-pub few-tells : (line : List ℕ) (n at : ℕ) → numbers line at n ≡ Err NoNumber → Few line at n
-few-tells line zero at h = ⊎_elim (λ w. absurd (ok_not [] NoNumber (sym w.1 ∙ h))) (λ w. absurd (surplus_not (sym w.1 ∙ h))) (ends_or_not line at)
-few-tells line (suc n) at h =
+pub few_tells : (line : List ℕ) (n at : ℕ) → numbers line at n ≡ Err NoNumber → Few line at n
+few_tells line zero at h = ⊎_elim (λ w. absurd (ok_not [] NoNumber (sym w.1 ∙ h))) (λ w. absurd (surplus_not (sym w.1 ∙ h))) (ends_or_not line at)
+few_tells line (suc n) at h =
     ⊎_elim
-    (λ w. one_more w.0 w.2 (few-tells line n w.0.next (put_err w.0.value (numbers line w.0.next n) NoNumber (sym (goes_on line at n w.0 w.1) ∙ h))))
+    (λ w. one_more w.0 w.2 (few_tells line n w.0.next (put_err w.0.value (numbers line w.0.next n) NoNumber (sym (goes_on line at n w.0 w.1) ∙ h))))
     (λ w. record { read = []; end = at; stand = refl; fewer = omega arith; none = w.1 })
     (here_or_not line at)
   where
@@ -113,11 +113,11 @@ few-tells line (suc n) at h =
         let l = p.fewer in
         record { read = f.value ∷ p.read; end = p.end; stand = (f.next, q, p.stand); fewer = omega arith; none = p.none }
 
-pub few-told : (line : List ℕ) (read : List ℕ) (n at end : ℕ) → Stand line at read end → length read < n → ((f : Field) → Numeral line end f → ⊥) → numbers line at n ≡ Err NoNumber
-few-told line read zero at end h l none = absurd (omega arith)
-few-told line [] (suc n) at end h l none = stops line at n (none_here line at (λ f q. none f (subst (λ k. Numeral line k f) h q)))
-few-told line (v ∷ vs) (suc n) at end h l none =
-    goes_on line at n (record { value = v; next = h.0 }) (number_here_lem line at (record { value = v; next = h.0 }) h.1) ∙ ap (put v) (few-told line vs n h.0 end h.2 (omega arith) none)
+pub few_told : (line : List ℕ) (read : List ℕ) (n at end : ℕ) → Stand line at read end → length read < n → ((f : Field) → Numeral line end f → ⊥) → numbers line at n ≡ Err NoNumber
+few_told line read zero at end h l none = absurd (omega arith)
+few_told line [] (suc n) at end h l none = stops line at n (none_here line at (λ f q. none f (subst (λ k. Numeral line k f) h q)))
+few_told line (v ∷ vs) (suc n) at end h l none =
+    goes_on line at n (record { value = v; next = h.0 }) (number_here_lem line at (record { value = v; next = h.0 }) h.1) ∙ ap (put v) (few_told line vs n h.0 end h.2 (omega arith) none)
 
 -- n numbers from a place on, and then something else than the end
 pub record Many (line : List ℕ) (at n : ℕ) : Type 0 where
@@ -127,29 +127,29 @@ pub record Many (line : List ℕ) (at n : ℕ) : Type 0 where
   pub all : length read ≡ n
   pub more : end < length line
 
-pub many-tells : (line : List ℕ) (n at : ℕ) → at ≤ length line → numbers line at n ≡ Err Surplus → Many line at n
-many-tells line zero at inside h = ⊎_elim (λ w. absurd (ok_not [] Surplus (sym w.1 ∙ h))) no (ends_or_not line at)
+pub many_tells : (line : List ℕ) (n at : ℕ) → at ≤ length line → numbers line at n ≡ Err Surplus → Many line at n
+many_tells line zero at inside h = ⊎_elim (λ w. absurd (ok_not [] Surplus (sym w.1 ∙ h))) no (ends_or_not line at)
   where
     less : (a b : ℕ) → a ≤ b → (a ≡ b → ⊥) → a < b
     less a b l f = ⊎_elim (λ e. absurd (f (eqb-true a b e))) (λ e. let g = eqb-false a b e in omega arith) (cases_Bool (eqb a b))
 
     no : (at ≡ length line → ⊥) × (whole {X = List ℕ} line at [] ≡ Err Surplus) → Many line at 0
     no w = record { read = []; end = at; stand = refl; all = refl; more = less at (length line) inside w.0 }
-many-tells line (suc n) at inside h =
+many_tells line (suc n) at inside h =
     ⊎_elim
-    (λ w. one_more w.0 w.2 (many-tells line n w.0.next w.2.inside (put_err w.0.value (numbers line w.0.next n) Surplus (sym (goes_on line at n w.0 w.1) ∙ h))))
+    (λ w. one_more w.0 w.2 (many_tells line n w.0.next w.2.inside (put_err w.0.value (numbers line w.0.next n) Surplus (sym (goes_on line at n w.0 w.1) ∙ h))))
     (λ w. absurd (surplus_not (sym h ∙ stops line at n w.0)))
     (here_or_not line at)
   where
     one_more : (f : Field) → Numeral line at f → Many line f.next n → Many line at (suc n)
     one_more f q p = record { read = f.value ∷ p.read; end = p.end; stand = (f.next, q, p.stand); all = ap suc p.all; more = p.more }
 
-pub many-told : (line : List ℕ) (read : List ℕ) (n at end : ℕ) → Stand line at read end → length read ≡ n → end < length line → numbers line at n ≡ Err Surplus
-many-told line [] zero at end h l more = cond-false (eqb at (length line)) (Ok []) (Err Surplus) (ne_eqb at (length line) (λ e. omega arith))
-many-told line [] (suc n) at end h l more = absurd (omega arith)
-many-told line (v ∷ vs) zero at end h l more = absurd (omega arith)
-many-told line (v ∷ vs) (suc n) at end h l more =
-    goes_on line at n (record { value = v; next = h.0 }) (number_here_lem line at (record { value = v; next = h.0 }) h.1) ∙ ap (put v) (many-told line vs n h.0 end h.2 (omega arith) more)
+pub many_told : (line : List ℕ) (read : List ℕ) (n at end : ℕ) → Stand line at read end → length read ≡ n → end < length line → numbers line at n ≡ Err Surplus
+many_told line [] zero at end h l more = cond-false (eqb at (length line)) (Ok []) (Err Surplus) (ne_eqb at (length line) (λ e. omega arith))
+many_told line [] (suc n) at end h l more = absurd (omega arith)
+many_told line (v ∷ vs) zero at end h l more = absurd (omega arith)
+many_told line (v ∷ vs) (suc n) at end h l more =
+    goes_on line at n (record { value = v; next = h.0 }) (number_here_lem line at (record { value = v; next = h.0 }) h.1) ∙ ap (put v) (many_told line vs n h.0 end h.2 (omega arith) more)
 
 -- nothing else can go wrong
 pub wrong : (line : List ℕ) (n at : ℕ) (e : Refusal) → numbers line at n ≡ Err e → (e ≡ NoNumber) ⊎ (e ≡ Surplus)

@@ -26,15 +26,15 @@ step : (line : List ℕ) (letter : ℕ) (b : Bool) (n : ℕ) (r rest : Result Co
 step line letter true n r rest others here after = here refl
 step line letter false n r rest others here after = after
 
-same-letter : {X : Type 0} (F : X → Command) (letter : ℕ) → ((x : X) → letter_of (F x) ≡ letter) → (r : Result X Refusal) (c : Command) → result_map_both F (λ e. e) r ≡ Ok c → letter_of c ≡ letter
-same-letter F letter l (Ok x) c h = ap letter_of (same (F x) c h) ∙ l x
+same_letter : {X : Type 0} (F : X → Command) (letter : ℕ) → ((x : X) → letter_of (F x) ≡ letter) → (r : Result X Refusal) (c : Command) → result_map_both F (λ e. e) r ≡ Ok c → letter_of c ≡ letter
+same_letter F letter l (Ok x) c h = ap letter_of (same (F x) c h) ∙ l x
   where
     same : (a b : Command) → ◌≡◌ {A = Result Command Refusal} (Ok a) (Ok b) → b ≡ a
     same a b e = cc
-same-letter F letter l (Err e) c h = let z : ◌≡◌ {A = ℕ} 0 1 = cc in absurd (omega arith)
+same_letter F letter l (Err e) c h = let z : ◌≡◌ {A = ℕ} 0 1 = cc in absurd (omega arith)
 
 one_way : (line : List ℕ) (letter : ℕ) (F : ℕ → Command) → ((v : ℕ) → numbers_of (F v) ≡ v ∷ []) → ((v : ℕ) → letter_of (F v) ≡ letter) → Way line letter (Some 1) (result_map_both F (λ e. e) (one_of line))
-one_way line letter F vs l = (reads (number_here line 1), same-letter F letter l (one_of line))
+one_way line letter F vs l = (reads (number_here line 1), same_letter F letter l (one_of line))
   where
     ends : (b : Bool) (v : ℕ) → numbers_in (result_map_both F (λ e. e) (cond b (Ok v) (Err Surplus))) ≡ put v (cond b (Ok []) (Err Surplus))
     ends true v = ap Ok (vs v)
@@ -59,7 +59,7 @@ thin_way line letter l = (ends (eqb 1 (length line)), of_thin (eqb 1 (length lin
     of_thin false c h = let z : ◌≡◌ {A = ℕ} 0 1 = cc in absurd (omega arith)
 
 route_way : (line : List ℕ) (letter : ℕ) → 81 ≡ letter → Way line letter (Some 4) (result_map_both Route (λ e. e) (query_of line))
-route_way line letter l = (one (number_here line 1), same-letter Route letter (λ q. l) (query_of line))
+route_way line letter l = (one (number_here line 1), same_letter Route letter (λ q. l) (query_of line))
   where
     ends : (b : Bool) (q : Query) → numbers_in (result_map_both Route (λ e. e) (cond b (Ok q) (Err Surplus))) ≡ put q.from (put q.to (put q.minute (put q.class (cond b (Ok []) (Err Surplus)))))
     ends true q = refl

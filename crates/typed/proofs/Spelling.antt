@@ -27,19 +27,19 @@ digits_more n h =
     ap bytes (digits_of_step 10 (n / 10) (omega arith) some) ∙ map-append (λ d. 48 + d) (digits_of 10 (n / 10 / 10)) ((n / 10 % 10) ∷ []) in
     ap (λ k. k ++ (48 + n % 10) ∷ []) front
 
-pub few-digits : (n : ℕ) → n < 2 ^ 64 → length (digits n) ≤ 20
-few-digits n h =
+pub few_digits : (n : ℕ) → n < 2 ^ 64 → length (digits n) ≤ 20
+few_digits n h =
     omega (arith, length_push (bytes (digits_of 10 (n / 10))) (48 + n % 10), length-map (digits_of 10 (n / 10)) (λ d. 48 + d), length-digits_of-le 10 19 (n / 10) (omega arith) (omega arith))
 
-worth-after : (v : ℕ) (ds : List ℕ) → fold (λ w b. w * 10 + (b - 48)) v (bytes ds) ≡ number_from_digits_after 10 v ds
-worth-after v [] = refl
-worth-after v (d ∷ ds) =
+worth_after : (v : ℕ) (ds : List ℕ) → fold (λ w b. w * 10 + (b - 48)) v (bytes ds) ≡ number_from_digits_after 10 v ds
+worth_after v [] = refl
+worth_after v (d ∷ ds) =
     let one : v * 10 + (48 + d - 48) ≡ v * 10 + d = omega arith in
-    ap (λ w. fold (λ u b. u * 10 + (b - 48)) w (bytes ds)) one ∙ worth-after (v * 10 + d) ds
+    ap (λ w. fold (λ u b. u * 10 + (b - 48)) w (bytes ds)) one ∙ worth_after (v * 10 + d) ds
 
 worth : (n : ℕ) → decimal (digits n) ≡ n
 worth n =
-    let front = worth-after 0 (digits_of 10 (n / 10)) ∙ number_digits_of 10 (n / 10) (omega arith) in
+    let front = worth_after 0 (digits_of 10 (n / 10)) ∙ number_digits_of 10 (n / 10) (omega arith) in
     omega (arith, fold_push (λ w b. w * 10 + (b - 48)) 0 (bytes (digits_of 10 (n / 10))) (48 + n % 10))
 
 pub spells : (n : ℕ) → Spells n (digits n)
@@ -54,9 +54,9 @@ spells n = record {
     before =
         All-map Digit (λ d. 48 + d) (digits_of 10 (n / 10)) (All-weaker (λ d. d < 10) (λ d. Digit (48 + d)) (λ d h. (omega arith, omega arith)) (digits_of 10 (n / 10)) (all_below_base_digits_of 10 (n / 10) (omega arith)))
 
-    some-from : (ds : List ℕ) → 0 < get_or ds 0 0 → 0 < length ds
-    some-from [] h = h
-    some-from (d ∷ ds) h = omega arith
+    some_from : (ds : List ℕ) → 0 < get_or ds 0 0 → 0 < length ds
+    some_from [] h = h
+    some_from (d ∷ ds) h = omega arith
 
     long : length (digits n) ≡ length (bytes (digits_of 10 (n / 10))) + 1
     long = length_push (bytes (digits_of 10 (n / 10))) (48 + n % 10)
@@ -68,5 +68,5 @@ spells n = record {
     leading l h =
         let ds = digits_of 10 (n / 10) in
         let first : 0 < get_or ds 0 0 = first_digits_of 10 (n / 10) (omega arith) (omega arith) in
-        let some : 0 < length ds = some-from ds first in
+        let some : 0 < length ds = some_from ds first in
         omega (arith, get_or_append_left (bytes ds) ((48 + n % 10) ∷ []) 0 0 (omega (arith, length-map ds (λ d. 48 + d))), get_or-map (λ d. 48 + d) ds 0 0 0 some)

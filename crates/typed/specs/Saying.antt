@@ -11,7 +11,7 @@ use Rattle.typed.specs.Forms.{letter_of, numbers_of, due, Stand}
 pub record Begins (line : List ℕ) (letter count : ℕ) : Type 0 where
   pub short : length line ≤ 64
   pub first : take 1 line ≡ letter ∷ []
-  pub is-due : due letter ≡ Some count
+  pub is_due : due letter ≡ Some count
 
 -- the line is the letter and the numbers of a command, and nothing else
 pub record Asks (line : List ℕ) (c : Command) : Type 0 where

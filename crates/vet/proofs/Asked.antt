@@ -15,12 +15,12 @@ use Rattle.vet.specs.declared.verdict.Verdict.TheVariants.{Holds, Fails}
 use Rattle.vet.specs.Faults.{Lowest, QueryFault}
 use Rattle.vet.specs.Vetting.{verdict_on, cause_of, unless, vetted}
 use Rattle.vet.specs.Verdicts.{Fits, FitsFrom, Answers, holds, SomeJourney, Vetted}
-use Rattle.vet.proofs.Numbered.{at_least, query-one}
+use Rattle.vet.proofs.Numbered.{at_least, query_one}
 use Rattle.vet.proofs.Told.{verdict_fits, fits_verdict}
 
 module _ (t : Timetable) (q : Query) where
-  no-quay : (length t.changes ≤ q.from) ⊎ (length t.changes ≤ q.to) → Lowest (QueryFault t q) NoQuay
-  no-quay h = record { wrong = inl (h, refl); lowest = low }
+  no_quay : (length t.changes ≤ q.from) ⊎ (length t.changes ≤ q.to) → Lowest (QueryFault t q) NoQuay
+  no_quay h = record { wrong = inl (h, refl); lowest = low }
     where
       low : (f : Refusal) → QueryFault t q f → 11 ≤ number_of f
       low f (inl i) = at_least 11 NoQuay f _ (lit≤ tt) i
@@ -45,8 +45,8 @@ module _ (t : Timetable) (q : Query) where
         low f (inr (inl i)) = at_least 12 LateMinute f _ (lit≤ tt) i
         low f (inr (inr i)) = at_least 12 NoClass f _ (lit≤ tt) i
 
-    no-class : q.minute < day → length figures ≤ q.class → Lowest (QueryFault t q) NoClass
-    no-class m h = record { wrong = inr (inr (h, refl)); lowest = low }
+    no_class : q.minute < day → length figures ≤ q.class → Lowest (QueryFault t q) NoClass
+    no_class m h = record { wrong = inr (inr (h, refl)); lowest = low }
       where
         low : (f : Refusal) → QueryFault t q f → 14 ≤ number_of f
         low f (inl (out, _)) = absurd (not_out out)
@@ -65,22 +65,22 @@ module _ (t : Timetable) (q : Query) where
       (λ b. cond_both (ltb q.minute day) _ _ Causes
       (λ m. cond_both (ltb q.class (length figures)) _ _ Causes
       (λ c. clear (ltb-true _ _ a) (ltb-true _ _ b) (ltb-true _ _ m) (ltb-true _ _ c))
-      (λ c. no-class (ltb-true _ _ a) (ltb-true _ _ b) (ltb-true _ _ m) (ltb-false _ _ c)))
+      (λ c. no_class (ltb-true _ _ a) (ltb-true _ _ b) (ltb-true _ _ m) (ltb-false _ _ c)))
       (λ m. late (ltb-true _ _ a) (ltb-true _ _ b) (ltb-false _ _ m)))
-      (λ b. no-quay (inr (ltb-false _ _ b))))
-      (λ a. no-quay (inl (ltb-false _ _ a)))
+      (λ b. no_quay (inr (ltb-false _ _ b))))
+      (λ a. no_quay (inl (ltb-false _ _ a)))
 
   module _ (plan : List Leg) where
-    from-fits : (v : Verdict) → FitsFrom t (class_minutes q.class) (start q.from q.minute) plan q.to v → Fits t q plan v
-    from-fits (Holds a) h = h
-    from-fits (Fails k e) h = h
+    from_fits : (v : Verdict) → FitsFrom t (class_minutes q.class) (start q.from q.minute) plan q.to v → Fits t q plan v
+    from_fits (Holds a) h = h
+    from_fits (Fails k e) h = h
 
-    fits-from : (v : Verdict) → Fits t q plan v → FitsFrom t (class_minutes q.class) (start q.from q.minute) plan q.to v
-    fits-from (Holds a) h = h
-    fits-from (Fails k e) h = h
+    fits_from : (v : Verdict) → Fits t q plan v → FitsFrom t (class_minutes q.class) (start q.from q.minute) plan q.to v
+    fits_from (Holds a) h = h
+    fits_from (Fails k e) h = h
 
     fits : Fits t q plan (verdict_on t q plan)
-    fits = from-fits _ (verdict_fits t (class_minutes q.class) (start q.from q.minute) plan q.to)
+    fits = from_fits _ (verdict_fits t (class_minutes q.class) (start q.from q.minute) plan q.to)
 
     answers : Answers t q plan (vetted t q plan)
     answers = go (cause_of q (length t.changes)) cause_means
@@ -93,10 +93,10 @@ module _ (t : Timetable) (q : Query) where
     only o = go (cause_of q (length t.changes)) cause_means o
       where
         go : (c : Option Refusal) → Causes c → (o : Result Verdict Refusal) → Answers t q plan o → o ≡ unless c (verdict_on t q plan)
-        go None h (Ok v) a = ap Ok (sym (fits_verdict t (class_minutes q.class) (start q.from q.minute) plan q.to v (fits-from v a.1)))
+        go None h (Ok v) a = ap Ok (sym (fits_verdict t (class_minutes q.class) (start q.from q.minute) plan q.to v (fits_from v a.1)))
         go None h (Err e) a = absurd (h e a.wrong)
         go (Some e) h (Ok v) a = absurd (a.0 e h.wrong)
-        go (Some e) h (Err f) a = ap Err (query-one t q f e a h)
+        go (Some e) h (Err f) a = ap Err (query_one t q f e a h)
 
     exact : Decides (holds (vetted t q plan)) (SomeJourney t q plan)
     exact = ((λ h. yes (vetted t q plan) answers h), λ (clear, (a, j)). ap holds (sym (only (Ok (Holds a)) (clear, j))))
@@ -109,5 +109,5 @@ module _ (t : Timetable) (q : Query) where
     pub vetted-right : Vetted t q plan (vetted t q plan)
     vetted-right = record { right = answers; only = only; exact = exact }
 
-    pub vetted-at : (r : Result Verdict Refusal) → r ≡ vetted t q plan → Vetted t q plan r
-    vetted-at r e = subst (Vetted t q plan) (sym e) vetted-right
+    pub vetted_at : (r : Result Verdict Refusal) → r ≡ vetted t q plan → Vetted t q plan r
+    vetted_at r e = subst (Vetted t q plan) (sym e) vetted-right

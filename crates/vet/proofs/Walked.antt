@@ -16,17 +16,17 @@ use Rattle.vet.specs.declared.verdict.Verdict.TheVariants.{Holds, Fails}
 use Rattle.vet.specs.Vetting.{judged, later, onward, verdict_from, verdict_on}
 
 -- the minutes that a class was told to add, and those of a class that there is not
-pub class-told : (c m : ℕ) → Ok m ≡ minutes_for c → m ≡ class_minutes c
+pub class_told : (c m : ℕ) → Ok m ≡ minutes_for c → m ≡ class_minutes c
 unfolding class_minutes
-class-told c m h = (asked_ok figures c 0 m NoClass h).1
+class_told c m h = (asked_ok figures c 0 m NoClass h).1
 
-pub class-absent : (c : ℕ) (e : Refusal) → Err e ≡ minutes_for c → 0 ≡ class_minutes c
+pub class_absent : (c : ℕ) (e : Refusal) → Err e ≡ minutes_for c → 0 ≡ class_minutes c
 unfolding class_minutes
-class-absent c e h = asked_default figures c 0 NoClass e h
+class_absent c e h = asked_default figures c 0 NoClass e h
 
-later-none : (v : Verdict) → later 0 v ≡ v
-later-none (Holds a) = refl
-later-none (Fails k e) = ap (λ n. Fails n e) (omega arith)
+later_none : (v : Verdict) → later 0 v ≡ v
+later_none (Holds a) = refl
+later_none (Fails k e) = ap (λ n. Fails n e) (omega arith)
 
 later_more : (k : ℕ) (v : Verdict) → later k (later 1 v) ≡ later (k + 1) v
 later_more k (Holds a) = refl
@@ -36,7 +36,7 @@ module _ (t : Timetable) (extra : ℕ) where
   -- no leg is judged yet
   pub begun : (q : Query) (here : Stand) (plan : List Leg) → extra ≡ class_minutes q.class → here ≡ start q.from q.minute
       → later 0 (verdict_from t extra here (drop 0 plan) q.to) ≡ verdict_on t q plan
-  begun q here plan e same = later-none _ ∙ (ap (λ n. verdict_from t n here plan q.to) e ∙ ap (λ h. verdict_from t (class_minutes q.class) h plan q.to) same)
+  begun q here plan e same = later_none _ ∙ (ap (λ n. verdict_from t n here plan q.to) e ∙ ap (λ h. verdict_from t (class_minutes q.class) h plan q.to) same)
 
   module _ (here : Stand) (plan : List Leg) (k to : ℕ) where
     -- leg k is right

@@ -10,6 +10,7 @@ use books::printed::Printed;
 use image::check::check_image;
 use image::fault::Kind;
 use std::fs;
+use std::process::ExitCode;
 
 fn read_book(rt: &HostRuntime) -> anyhow::Result<Vec<u8>> {
     match fs::read(rt, "book.img") {
@@ -32,10 +33,13 @@ fn run(rt: &HostRuntime) -> anyhow::Result<()> {
     }
 }
 
-fn main(rt: HostRuntime) -> anyhow::Result<()> {
-    let outcome = run(&rt);
-    if let Err(error) = &outcome {
-        eprintln!(rt; "vetplan: {error}")?;
+fn main(rt: HostRuntime) -> ExitCode {
+    match run(&rt) {
+        Ok(()) => ExitCode::SUCCESS,
+        Err(error) => {
+            // where this cannot be written either, the status alone tells
+            let _ = eprintln!(rt; "vetplan: {error}");
+            ExitCode::FAILURE
+        }
     }
-    outcome
 }

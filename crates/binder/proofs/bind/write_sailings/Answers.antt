@@ -2,7 +2,7 @@ use Rattle.std.proofs.Common.{◌+◌, ◌*◌, get_or, refl, ap, ◌∙◌, ari
 use Rattle.std.specs.List.{flat_map}
 use Rattle.std.proofs.lemmas.List.{take_all}
 use Rattle.image.specs.Layout.{sailing_bytes}
-use Rattle.image.proofs.Laid.{all-sized}
+use Rattle.image.proofs.Laid.{all_sized}
 use Rattle.binder.specs.Binding.{written}
 use Rattle.binder.specs.Content.{no_sailing}
 use Rattle.binder.proofs.Puts.{written_none, row_written}
@@ -19,7 +19,7 @@ loop-row-preserved c =
     c.put.ensures
     ∙ ap (λ r. written (c.args.start + 16 * row) r c.loop-row.image) c.sailing_record.ensures
     ∙ ap (written (c.args.start + 16 * row) (sailing_bytes (get_or xs row no_sailing))) c.loop-row.invariant
-    ∙ row_written sailing_bytes xs row c.args.start no_sailing d (all-sized sailing_bytes 16 (λ x. refl) xs) c.loop-row-test.true (omega (arith, c.requires))
+    ∙ row_written sailing_bytes xs row c.args.start no_sailing d (all_sized sailing_bytes 16 (λ x. refl) xs) c.loop-row-test.true (omega (arith, c.requires))
 
 pub returns : goal.returns
 returns c =

@@ -2,9 +2,9 @@ use Rattle.std.proofs.Common.{◌≡◌, Ok, sym, ap, ◌∙◌}
 use Rattle.image.specs.declared.fault.Kind.TheVariants.{Printed, ClockFace}
 use Rattle.image.specs.Checks.{image_check}
 use Rattle.image.specs.Meanings.{printed, clock_face}
-use Rattle.image.proofs.Same.{printed-same, clock_same}
+use Rattle.image.proofs.Same.{printed_same, clock_same}
 use Rattle.console.specs.Told.{told_in, told_of}
-use Rattle.console.proofs.Ways.{told-room}
+use Rattle.console.proofs.Ways.{told_room}
 use Rattle.console.proofs.call.earliest_of.Goals as goal
 
 pub returns-in-Ok-Printed : goal.returns-in-Ok-Printed
@@ -17,11 +17,11 @@ returns-in-Ok-Printed c =
     let checked = c.in-Ok-Printed.ensures in
     let is : image_check bs ≡ Ok Printed = cc in
     let held = checked.exact.printed (cc) in
-    let same : printed cs ≡ printed bs = c.open.ensures.held held ∙ sym (printed-same held.quays held.sailings bs held.laid) in
+    let same : printed cs ≡ printed bs = c.open.ensures.held held ∙ sym (printed_same held.quays held.sailings bs held.laid) in
     let e = c.earliest_in.ensures in
     record {
       value = e ∙ ap (λ t. told_in t q u room) same ∙ ap (λ r. told_of r bs q u room) (sym is);
-      fits = λ m w. told-room (printed cs) q u room m (sym e ∙ w);
+      fits = λ m w. told_room (printed cs) q u room m (sym e ∙ w);
     }
 
 pub returns-in-Ok-ClockFace : goal.returns-in-Ok-ClockFace
@@ -38,5 +38,5 @@ returns-in-Ok-ClockFace c =
     let e = c.earliest_in-in-Ok-ClockFace.ensures in
     record {
       value = e ∙ ap (λ t. told_in t q u room) same ∙ ap (λ r. told_of r bs q u room) (sym is);
-      fits = λ m w. told-room (clock_face cs) q u room m (sym e ∙ w);
+      fits = λ m w. told_room (clock_face cs) q u room m (sym e ∙ w);
     }

@@ -1,6 +1,6 @@
 use Rattle.std.proofs.Common.{refl}
-use Rattle.image.proofs.Held.{one-content}
+use Rattle.image.proofs.Held.{one_content}
 use Rattle.image.proofs.check.holds_one_content.Goals as goal
 
 pub returns : goal.returns
-returns c = ((λ _. one-content), λ _. refl)
+returns c = ((λ _. one_content), λ _. refl)

@@ -1,12 +1,12 @@
 use Rattle.std.proofs.Common.{sym, arith}
 use Rattle.std.proofs.lemmas.Result.{err_from_is_err_and}
 use Rattle.image.specs.Checks.{series}
-use Rattle.image.proofs.Walks.{up_to-more, up_to-fault}
-use Rattle.image.proofs.Good.{series-room, series-inside, places-more}
+use Rattle.image.proofs.Walks.{up_to_more, up_to-fault}
+use Rattle.image.proofs.Good.{series_room, series_inside, places_more}
 use Rattle.image.proofs.clock_face.check_all_series.Goals as goal
 
 pub number_at-requires : goal.number_at-requires
-number_at-requires c = omega (arith, series-inside c.args.bytes.now c.args.quays c.loop-row.row (sym c.in_ok-check_series.ensures))
+number_at-requires c = omega (arith, series_inside c.args.bytes.now c.args.quays c.loop-row.row (sym c.in_ok-check_series.ensures))
 
 pub returns-in_err-check_series : goal.returns-in_err-check_series
 returns-in_err-check_series c =
@@ -16,8 +16,8 @@ returns-in_err-check_series c =
 pub loop-row-preserved : goal.loop-row-preserved
 loop-row-preserved c =
     let ok = sym c.in_ok-check_series.ensures in
-    let room = series-room c.args.bytes.now c.args.quays c.loop-row.row ok in (
-      up_to-more (series c.args.bytes.now c.args.quays) c.loop-row.row c.loop-row.invariant.0 ok,
-      places-more c.args.bytes.now c.args.quays c.loop-row.row _ _ c.loop-row.invariant.1 c.number_at.ensures,
+    let room = series_room c.args.bytes.now c.args.quays c.loop-row.row ok in (
+      up_to_more (series c.args.bytes.now c.args.quays) c.loop-row.row c.loop-row.invariant.0 ok,
+      places_more c.args.bytes.now c.args.quays c.loop-row.row _ _ c.loop-row.invariant.1 c.number_at.ensures,
       omega (arith, room, c.loop-row.invariant.1, c.number_at.ensures),
     )

@@ -1,7 +1,7 @@
 use Rattle.std.proofs.Common.{sym}
 use Rattle.std.proofs.lemmas.Result.{err_from_is_err_and}
 use Rattle.image.specs.Checks.{sailing}
-use Rattle.image.proofs.Walks.{up_to-more, up_to-fault}
+use Rattle.image.proofs.Walks.{up_to_more, up_to-fault}
 use Rattle.image.proofs.printed.check_sailings.Goals as goal
 
 pub returns-in_err-check_sailing : goal.returns-in_err-check_sailing
@@ -10,4 +10,4 @@ returns-in_err-check_sailing c =
     rw (p.1, p.2) (sym (up_to-fault (sailing c.args.bytes.now c.args.quays) c.loop-row.row c.args.entries _ c.loop-row-test.true c.loop-row.invariant (sym c.in_err-check_sailing.ensures)))
 
 pub loop-row-preserved : goal.loop-row-preserved
-loop-row-preserved c = up_to-more (sailing c.args.bytes.now c.args.quays) c.loop-row.row c.loop-row.invariant (sym c.in_ok-check_sailing.ensures)
+loop-row-preserved c = up_to_more (sailing c.args.bytes.now c.args.quays) c.loop-row.row c.loop-row.invariant (sym c.in_ok-check_sailing.ensures)

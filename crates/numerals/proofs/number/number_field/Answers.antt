@@ -1,5 +1,5 @@
 use Rattle.std.proofs.Common.{sym, ◌∙◌}
-use Rattle.numerals.proofs.Standing.{number_tells, number_told, within-from}
+use Rattle.numerals.proofs.Standing.{number_tells, number_told, within_from}
 use Rattle.numerals.proofs.number.number_field.Goals as goal
 
 pub returns : goal.returns
@@ -10,5 +10,5 @@ returns c =
     record {
       value = e;
       exact = λ f. (λ h. number_tells line at f (sym e ∙ h), λ h. e ∙ number_told line at f h);
-      within = within-from _ _ (λ f h. (number_tells line at f (sym e ∙ h)).inside);
+      within = within_from _ _ (λ f h. (number_tells line at f (sym e ∙ h)).inside);
     }

@@ -1,5 +1,5 @@
 use Rattle.std.proofs.Common.{sym, ◌∙◌}
-use Rattle.numerals.proofs.Standing.{within-from}
+use Rattle.numerals.proofs.Standing.{within_from}
 use Rattle.numerals.proofs.Clocks.{time_tells, time_told}
 use Rattle.numerals.proofs.time.time_field.Goals as goal
 
@@ -11,5 +11,5 @@ returns c =
     record {
       value = e;
       exact = λ f. (λ h. time_tells line at f (sym e ∙ h), λ h. e ∙ time_told line at f h);
-      within = within-from _ _ (λ f h. (time_tells line at f (sym e ∙ h)).inside);
+      within = within_from _ _ (λ f h. (time_tells line at f (sym e ∙ h)).inside);
     }

@@ -8,7 +8,7 @@ pub open_quay-requires : goal.open_quay-requires
 open_quay-requires g c = record {
   ready = begin (view c.unlabel.new.labels) c.unlabel.ensures (g.B.Book.meaning c.args.book.now) c.args.trip (view c.args.labels.now) (g.L.Line.keys c.args.line.now) c.requires.asked
       (omega (arith, view-length c.unlabel.new.labels, view-length c.args.labels.now)) _ c.clear.ensures;
-  many = omega (arith, c.requires.many, c.requires.asked.fair.lawful.few-quays);
+  many = omega (arith, c.requires.many, c.requires.asked.fair.lawful.few_quays);
   opened = none_open (g.B.Book.meaning c.args.book.now) c.args.trip (view c.unlabel.new.labels) c.args.spans.now c.args.trip.minute c.requires.closed;
 }
 

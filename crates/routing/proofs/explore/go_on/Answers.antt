@@ -1,8 +1,8 @@
 use Rattle.std.proofs.Common.{arith}
 use Rattle.routing.specs.declared.ride.Origin.TheVariants.{Via}
 use Rattle.routing.specs.Labels.{view}
-use Rattle.routing.proofs.Opens.{opened-better}
-use Rattle.routing.proofs.Turned.{span-order, span-end, whole, origin_quay}
+use Rattle.routing.proofs.Opens.{opened_better}
+use Rattle.routing.proofs.Turned.{span_order, span_end, whole, origin_quay}
 use Rattle.routing.proofs.explore.go_on.Goals as goal
 
 pub follow_span-requires : goal.follow_span-requires
@@ -12,7 +12,7 @@ follow_span-requires g c =
     let (is, covers) = c.requires.opened v c.in-Some.span c.in-Some.is in
     record {
       ready = c.requires.ready;
-      order = (span-order T v c.in-Some.span c.requires.ready.fair.lawful is, omega (arith, span-end T v c.in-Some.span c.requires.ready.fair.lawful is, c.requires.ready.sized));
+      order = (span_order T v c.in-Some.span c.requires.ready.fair.lawful is, omega (arith, span_end T v c.in-Some.span c.requires.ready.fair.lawful is, c.requires.ready.sized));
       late = covers;
     }
 
@@ -28,5 +28,5 @@ returns-in-Some g c =
     let (is, covers) = c.requires.opened c.args.ride.sailing.to c.in-Some.span c.in-Some.is in
     record {
       through = whole T c.args.trip (Via c.args.place c.args.ride c.args.change) (view c.args.labels.now) (view c.follow_span.new.labels) (g.L.Line.keys c.follow_span.new.line) c.in-Some.span is c.follow_span.ensures;
-      opened = opened-better T c.args.trip (view c.args.labels.now) (view c.follow_span.new.labels) c.args.spans.now c.args.ride.arrives c.follow_span.ensures.better c.requires.opened;
+      opened = opened_better T c.args.trip (view c.args.labels.now) (view c.follow_span.new.labels) c.args.spans.now c.args.ride.arrives c.follow_span.ensures.better c.requires.opened;
     }

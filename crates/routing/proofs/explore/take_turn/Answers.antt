@@ -1,10 +1,10 @@
 use Rattle.std.proofs.Common.{arith}
 use Rattle.routing.specs.Labels.{view}
-use Rattle.routing.proofs.Turned.{none-waits, opened_after, arrived, onward, gone}
+use Rattle.routing.proofs.Turned.{none_waits, opened_after, arrived, onward, gone}
 use Rattle.routing.proofs.explore.take_turn.Goals as goal
 
 pub returns-in_default : goal.returns-in_default
-returns-in_default g c = none-waits (g.B.Book.meaning c.args.book.now) c.args.trip (view c.args.labels.now) (g.L.Line.keys c.args.line.now) c.args.spans.now c.requires c.in_default.ensures
+returns-in_default g c = none_waits (g.B.Book.meaning c.args.book.now) c.args.trip (view c.args.labels.now) (g.L.Line.keys c.args.line.now) c.args.spans.now c.requires c.in_default.ensures
 
 pub returns-then-ride-trip : goal.returns-then-ride-trip
 returns-then-ride-trip g c =

@@ -3,7 +3,7 @@ use Rattle.routing.specs.declared.ride.Origin.TheVariants.{Via}
 use Rattle.routing.specs.Labels.{view}
 use Rattle.routing.specs.Relaxing.{late}
 use Rattle.routing.proofs.Relaxed.{joined, none_yet}
-use Rattle.routing.proofs.Steps.{covers-better}
+use Rattle.routing.proofs.Steps.{covers_better}
 use Rattle.routing.proofs.follow.follow_span.Goals as goal
 
 pub loop-place-init : goal.loop-place-init
@@ -13,7 +13,7 @@ pub follow-requires : goal.follow-requires
 follow-requires g c = record {
   ready = c.loop-place.invariant.ready;
   inside = omega (arith, c.requires.order.1);
-  late = covers-better (g.B.Book.meaning c.args.book.now) (view c.args.labels.now) (view c.loop-place.labels) (late (g.B.Book.meaning c.args.book.now) c.args.trip c.args.ridden.sailing.to c.args.ridden.arrives) 0 (length (g.B.Book.meaning c.args.book.now).places) c.loop-place.invariant.better c.requires.late;
+  late = covers_better (g.B.Book.meaning c.args.book.now) (view c.args.labels.now) (view c.loop-place.labels) (late (g.B.Book.meaning c.args.book.now) c.args.trip c.args.ridden.sailing.to c.args.ridden.arrives) 0 (length (g.B.Book.meaning c.args.book.now).places) c.loop-place.invariant.better c.requires.late;
 }
 
 pub loop-place-preserved : goal.loop-place-preserved

@@ -1,6 +1,6 @@
 use Rattle.std.proofs.Common.{◌≡◌, ◌≤◌, length, sym, refl, ap, ◌∙◌, arith}
 use Rattle.routing.specs.Labels.{Status, Settled, view, look}
-use Rattle.routing.proofs.Chain.{settled-inside, made_pos, walk_starts, walk_goes, walk_ends, walk_has, walk_less, walk_rest}
+use Rattle.routing.proofs.Chain.{settled_inside, made_pos, walk_starts, walk_goes, walk_ends, walk_has, walk_less, walk_rest}
 use Rattle.routing.proofs.Views.{view-length, settled_in}
 use Rattle.routing.proofs.legs.write_legs.Goals as goal
 
@@ -34,7 +34,7 @@ bounds-labels-before c =
     let ls = view c.args.labels.now in
     let room : c.args.ride.depth ≤ length c.back.legs = omega (arith, c.requires.room, c.back.auto.legs) in
     let (rs, is) = walk_has T q ls c.args.last c.args.ride arrival c.back.legs c.back.at c.back.cur room (c.back.invariant.0 T q arrival) c.in-Some.before c.in-Some.is in
-    omega (arith, settled-inside ls c.in-Some.before rs is, view-length c.args.labels.now)
+    omega (arith, settled_inside ls c.in-Some.before rs is, view-length c.args.labels.now)
 
 pub back-smaller : goal.back-smaller
 back-smaller c =
@@ -42,7 +42,7 @@ back-smaller c =
     let ls = view c.args.labels.now in
     let room : c.args.ride.depth ≤ length c.back.legs = omega (arith, c.requires.room, c.back.auto.legs) in
     let (rs, is) = walk_has T q ls c.args.last c.args.ride arrival c.back.legs c.back.at c.back.cur room (c.back.invariant.0 T q arrival) c.in-Some.before c.in-Some.is in
-    let here = c.ride_in-cur.ensures ∙ settled_in c.args.labels.now c.in-Some.before _ rs (omega (arith, settled-inside ls c.in-Some.before rs is, view-length c.args.labels.now)) is in
+    let here = c.ride_in-cur.ensures ∙ settled_in c.args.labels.now c.in-Some.before _ rs (omega (arith, settled_inside ls c.in-Some.before rs is, view-length c.args.labels.now)) is in
     let at : look ls c.in-Some.before ≡ Settled c.ride_in-cur.result = is ∙ ap {B = Status} Settled (sym here) in
     walk_less T q ls c.args.last c.args.ride arrival c.back.legs c.back.at c.back.cur room (c.back.invariant.0 T q arrival) c.in-Some.before c.ride_in-cur.result c.in-Some.is at
 
@@ -52,7 +52,7 @@ back-preserved c =
     let ls = view c.args.labels.now in
     let room : c.args.ride.depth ≤ length c.back.legs = omega (arith, c.requires.room, c.back.auto.legs) in
     let (rs, is) = walk_has T q ls c.args.last c.args.ride arrival c.back.legs c.back.at c.back.cur room (c.back.invariant.0 T q arrival) c.in-Some.before c.in-Some.is in
-    let here = c.ride_in-cur.ensures ∙ settled_in c.args.labels.now c.in-Some.before _ rs (omega (arith, settled-inside ls c.in-Some.before rs is, view-length c.args.labels.now)) is in
+    let here = c.ride_in-cur.ensures ∙ settled_in c.args.labels.now c.in-Some.before _ rs (omega (arith, settled_inside ls c.in-Some.before rs is, view-length c.args.labels.now)) is in
     let at : look ls c.in-Some.before ≡ Settled c.ride_in-cur.result = is ∙ ap {B = Status} Settled (sym here) in (
       (λ T₂ q₂ arrival₂. walk_goes T₂ q₂ ls c.args.last c.args.ride arrival₂ c.back.legs c.back.at c.back.cur room (c.back.invariant.0 T₂ q₂ arrival₂) c.in-Some.before c.ride_in-cur.result c.in-Some.is at),
       walk_rest T q ls c.args.last c.args.ride arrival c.back.legs c.back.at c.back.cur room (c.back.invariant.0 T q arrival) ∙ c.back.invariant.1,

@@ -1,7 +1,7 @@
 use Rattle.std.proofs.Common.{◌≡◌, ◌+◌, ◌-◌, ◌*◌, ◌/◌, ◌%◌, ⊎_elim, arith}
 use Rattle.std.proofs.lemmas.Bool.{cases_eq}
 use Rattle.timetable.specs.Times.{day, next}
-use Rattle.timetable.proofs.Laws.{next-is, next_one}
+use Rattle.timetable.proofs.Laws.{next_is, next_one}
 use Rattle.routing.proofs.minutes.next_leave.Goals as goal
 
 pub returns : goal.returns
@@ -20,4 +20,4 @@ returns c =
       late = omega (arith, h, c.requires);
       least = λ k l lo. let d = l.on in let e : k ≡ day * d + s.dep = l.minute in omega (arith, h, c.requires);
     })
-    (cases_eq c.before-2.result 0)) (next-is s u)
+    (cases_eq c.before-2.result 0)) (next_is s u)

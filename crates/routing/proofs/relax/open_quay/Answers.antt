@@ -5,8 +5,8 @@ use Rattle.timetable.proofs.Told.{asked_ok, asked_err}
 use Rattle.routing.specs.Labels.{view}
 use Rattle.routing.specs.Origins.{minute_of}
 use Rattle.routing.specs.Relaxing.{Opened}
-use Rattle.routing.proofs.Opens.{opened-more}
-use Rattle.routing.proofs.Turned.{span-order, whole, origin_quay}
+use Rattle.routing.proofs.Opens.{opened_more}
+use Rattle.routing.proofs.Turned.{span_order, whole, origin_quay}
 use Rattle.routing.proofs.relax.open_quay.Goals as goal
 
 pub bounds-spans-quay : goal.bounds-spans-quay
@@ -18,7 +18,7 @@ relax_span-requires g c =
     let T = g.B.Book.meaning c.args.book.now in
     record {
       ready = c.requires.ready;
-      order = span-order T c.quay_of-quay.result c.in-Ok.span c.requires.ready.fair.lawful (asked_ok T.spans c.quay_of-quay.result nowhere c.in-Ok.span NoQuay c.in-Ok.ensures).1;
+      order = span_order T c.quay_of-quay.result c.in-Ok.span c.requires.ready.fair.lawful (asked_ok T.spans c.quay_of-quay.result nowhere c.in-Ok.span NoQuay c.in-Ok.ensures).1;
     }
 
 pub returns-in-Ok : goal.returns-in-Ok
@@ -30,7 +30,7 @@ returns-in-Ok g c =
     record {
       through = t;
       opened = subst (λ k. Opened T c.args.trip (view c.relax_span.new.labels) (set c.args.spans.now k (Some c.in-Ok.span)) (minute_of c.args.origin)) (sym c.quay_of-quay.ensures)
-          (opened-more T c.args.trip c.args.origin (view c.args.labels.now) (view c.relax_span.new.labels) (g.L.Line.keys c.relax_span.new.line) c.args.spans.now c.in-Ok.span
+          (opened_more T c.args.trip c.args.origin (view c.args.labels.now) (view c.relax_span.new.labels) (g.L.Line.keys c.relax_span.new.line) c.args.spans.now c.in-Ok.span
           (omega (arith, origin_quay T c.args.trip c.args.origin (view c.args.labels.now) (g.L.Line.keys c.args.line.now) c.requires.ready, c.requires.many)) is c.requires.opened t);
     }
 

@@ -1,6 +1,6 @@
 use Rattle.std.proofs.Common.{◌≡◌, ℕ, set, sym, ap, ◌∙◌, arith}
 use Rattle.routing.specs.Labels.{view, look, reach}
-use Rattle.routing.proofs.Best.{stands-inside, same-sailing}
+use Rattle.routing.proofs.Best.{stands_inside, same_sailing}
 use Rattle.routing.proofs.Relaxed.{small, stepped, passed}
 use Rattle.routing.proofs.relax.relax.Goals as goal
 
@@ -10,7 +10,7 @@ ride_from-requires g c =
 
 pub relax_place-requires : goal.relax_place-requires
 relax_place-requires g c = record {
-  inside = omega (arith, stands-inside (g.B.Book.meaning c.args.book.now) c.args.place c.in-Some.s (sym c.in-Some.ensures), c.requires.sized);
+  inside = omega (arith, stands_inside (g.B.Book.meaning c.args.book.now) c.args.place c.in-Some.s (sym c.in-Some.ensures), c.requires.sized);
   linked = c.requires.linked;
 }
 
@@ -25,7 +25,7 @@ pub returns-else-s-quay_of : goal.returns-else-s-quay_of
 returns-else-s-quay_of g c =
     let T = g.B.Book.meaning c.args.book.now in
     passed T c.args.trip (view c.args.labels.now) (g.L.Line.keys c.args.line.now) c.args.origin c.requires c.args.place
-    (λ s e f. c.if-s-quay_of.false (ap (λ x. x.from) (same-sailing T c.args.place c.in-Some.s s (sym c.in-Some.ensures) e) ∙ f ∙ sym c.quay_of.ensures))
+    (λ s e f. c.if-s-quay_of.false (ap (λ x. x.from) (same_sailing T c.args.place c.in-Some.s s (sym c.in-Some.ensures) e) ∙ f ∙ sym c.quay_of.ensures))
 
 pub returns-in_default : goal.returns-in_default
 returns-in_default g c =

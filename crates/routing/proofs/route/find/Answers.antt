@@ -3,7 +3,7 @@ use Rattle.routing.specs.Labels.{view}
 use Rattle.routing.specs.Trips.{trip_of, Unmade}
 use Rattle.routing.specs.Turns.{Asked, Arrival}
 use Rattle.routing.proofs.Begun.{all_closed}
-use Rattle.routing.proofs.Told.{arrival-depth, best}
+use Rattle.routing.proofs.Told.{arrival_depth, best}
 use Rattle.routing.proofs.route.find.Goals as goal
 
 pub prepare-requires : goal.prepare-requires
@@ -19,7 +19,7 @@ write_legs-requires g c =
     let arrival = c.in-Some.ensures in
     record {
       known = (T, c.trip_of-trip.result, arrival);
-      room = omega (arith, arrival-depth T c.trip_of-trip.result (view c.explore.new.labels) c.in-Some.last c.in-Some.ride arrival, c.requires.room);
+      room = omega (arith, arrival_depth T c.trip_of-trip.result (view c.explore.new.labels) c.in-Some.last c.in-Some.ride arrival, c.requires.room);
     }
 
 pub returns-in_default : goal.returns-in_default

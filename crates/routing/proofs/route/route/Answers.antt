@@ -1,6 +1,6 @@
 use Rattle.std.proofs.Common.{◌-◌, length, take, arith}
 use Rattle.std.proofs.lemmas.List.{length-take}
-use Rattle.timetable.proofs.Laws.{class-short}
+use Rattle.timetable.proofs.Laws.{class_short}
 use Rattle.routing.proofs.Told.{stays, accepted}
 use Rattle.routing.proofs.Views.{view-length}
 use Rattle.routing.proofs.route.route.Goals as goal
@@ -21,12 +21,12 @@ find-requires g c =
     let long = view-length (take (c.places-places.result - 0) c.args.labels.now) in
     record {
       asked = record {
-        fair = record { lawful = g.B.Book.lawful c.args.book.now; minute = omega (arith, ok.minute); extra = class-short c.args.query.class; from = ok.from };
+        fair = record { lawful = g.B.Book.lawful c.args.book.now; minute = omega (arith, ok.minute); extra = class_short c.args.query.class; from = ok.from };
         apart = c.if-query.false;
-        sized = omega (arith, long, c.places-places.ensures, ok.few-labels);
-        room = omega (arith, long, c.places-places.ensures, ok.few-items);
+        sized = omega (arith, long, c.places-places.ensures, ok.few_labels);
+        room = omega (arith, long, c.places-places.ensures, ok.few_items);
       };
-      room = ok.few-legs;
+      room = ok.few_legs;
     }
 
 pub returns : goal.returns

@@ -6,7 +6,7 @@ use Rattle.thinning.proofs.copy.read.Goals as goal
 pub loop-p-preserved : goal.loop-p-preserved
 loop-p-preserved g c =
     let xs = (g.B.Book.meaning c.args.book.now).places in
-    let few : length xs ≤ 3072 = (g.B.Book.lawful c.args.book.now).few-places in (
+    let few : length xs ≤ 3072 = (g.B.Book.lawful c.args.book.now).few_places in (
       length-set _ _ _ ∙ c.loop-p.invariant.0,
       take_more_set c.loop-p.places c.loop-p.p c.place_of.result (omega arith)
           ∙ ap₂ (λ (l : List (Option Sailing)) (y : Option Sailing). l ++ (y ∷ [])) c.loop-p.invariant.1 c.place_of.ensures

@@ -14,7 +14,7 @@ loop-place-init g c = marking_starts _ _ c.erase.ensures
 pub loop-place-preserved : goal.loop-place-preserved
 loop-place-preserved g c =
     elim c.if-is_to_mark.branch [
-      | then-is_to_mark w ↦ marking_set _ _ _ _ _ _ c.loop-place.invariant (omega (arith, (g.B.Book.lawful c.args.book.now).few-places)) w.if-is_to_mark.ensures (ap (λ (m : Marks). m.at) w.marks-is ∙ w.mark.ensures) w.count-is
+      | then-is_to_mark w ↦ marking_set _ _ _ _ _ _ c.loop-place.invariant (omega (arith, (g.B.Book.lawful c.args.book.now).few_places)) w.if-is_to_mark.ensures (ap (λ (m : Marks). m.at) w.marks-is ∙ w.mark.ensures) w.count-is
       | else-is_to_mark w ↦ marking_skip _ _ _ _ _ _ c.loop-place.invariant w.if-is_to_mark.ensures (ap (λ (m : Marks). m.at) w.marks-is) w.count-is
     ]
 

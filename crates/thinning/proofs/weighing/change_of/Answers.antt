@@ -6,7 +6,7 @@ pub returns-in-Ok : goal.returns-in-Ok
 returns-in-Ok g c =
     let t = g.B.Book.meaning c.args.book.now in
     let e = (asked_ok t.changes c.args.quay _ _ _ c.in-Ok.ensures).1 in
-    record { value = e; short = omega (arith, e, (g.B.Book.lawful c.args.book.now).change-day c.args.quay) }
+    record { value = e; short = omega (arith, e, (g.B.Book.lawful c.args.book.now).change_day c.args.quay) }
 
 pub returns-in-Err : goal.returns-in-Err
 returns-in-Err g c = record {

@@ -11,11 +11,11 @@ goes : {X Y : Type 0} (r : Result X Refusal) (k : X → Result Y Refusal) (x : X
 goes r k x e = ap (λ t. and_then t k) (sym e)
 
 -- what is read after three of the numbers, two and one
-abbrev after-three : List ℕ → Field → Field → Field → Result Query Refusal
-after-three line a b m = and_then (number_here line m.next) (λ k. whole line k.next (query_with a b m k))
+abbrev after_three : List ℕ → Field → Field → Field → Result Query Refusal
+after_three line a b m = and_then (number_here line m.next) (λ k. whole line k.next (query_with a b m k))
 
 abbrev after_two : List ℕ → Field → Field → Result Query Refusal
-after_two line a b = and_then (number_here line b.next) (λ m. after-three line a b m)
+after_two line a b = and_then (number_here line b.next) (λ m. after_three line a b m)
 
 abbrev after_one : List ℕ → Field → Result Query Refusal
 after_one line a = and_then (number_here line a.next) (λ b. after_two line a b)
@@ -25,7 +25,7 @@ four line a b m k p q r s e =
     sym
     (goes (number_here line 1) (after_one line) a p
     ∙ (goes (number_here line a.next) (after_two line a) b q
-    ∙ (goes (number_here line b.next) (after-three line a b) m r
+    ∙ (goes (number_here line b.next) (after_three line a b) m r
     ∙ (goes (number_here line m.next) (λ k. whole line k.next (query_with a b m k)) k s
     ∙ cond-true (eqb k.next (length line)) (Ok (query_with a b m k)) (Err Surplus) (eq-eqb k.next (length line) e)))))
 

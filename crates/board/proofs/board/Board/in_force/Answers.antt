@@ -1,5 +1,5 @@
 use Rattle.std.proofs.Common.{refl, ◌∙◌}
-use Rattle.timetable.proofs.HidingLemmas.{hide-twice}
+use Rattle.timetable.proofs.HidingLemmas.{hide_twice}
 use Rattle.tables.specs.Kept.{kept}
 use Rattle.layers.specs.Notices.{of_withheld, touches_shut}
 use Rattle.board.proofs.board.Board.in_force.Goals as goal
@@ -7,5 +7,5 @@ use Rattle.board.proofs.board.Board.in_force.Goals as goal
 pub returns : goal.returns
 returns g c =
     let b = c.args.self.now.thinned.below in
-    let stands = hide-twice (touches_shut (kept b.quays)) (of_withheld (kept b.below.runs)) (g.B.Book.meaning b.below.below) in
+    let stands = hide_twice (touches_shut (kept b.quays)) (of_withheld (kept b.below.runs)) (g.B.Book.meaning b.below.below) in
     record { book = refl; law = record { stands = stands; in_force = λ t h k. stands ∙ k.in_force } }

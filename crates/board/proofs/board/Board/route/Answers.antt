@@ -1,7 +1,7 @@
 use Rattle.std.proofs.Common.{subst}
 use Rattle.timetable.specs.Timetables.{Timetable}
 use Rattle.timetable.specs.Hiding.{hide}
-use Rattle.timetable.proofs.HidingLemmas.{hide-twice}
+use Rattle.timetable.proofs.HidingLemmas.{hide_twice}
 use Rattle.tables.specs.Kept.{kept}
 use Rattle.thinning.specs.Thinning.{marked}
 use Rattle.layers.specs.Notices.{of_withheld, touches_shut}
@@ -22,5 +22,5 @@ returns g c =
     let r = c.route.result in
     let told : Routed (shown s) q given left r =
     subst (λ (x : Timetable). Routed (hide (marked s.marks) x) q given left r)
-    (hide-twice (touches_shut (kept b.quays)) (of_withheld (kept b.below.runs)) (g.B.Book.meaning b.below.below)) c.route.ensures in
+    (hide_twice (touches_shut (kept b.quays)) (of_withheld (kept b.below.runs)) (g.B.Book.meaning b.below.below)) c.route.ensures in
     record { shown = told; law = route_carries s q r given left (in_force s q given left r told) (record { labels = c.route.auto.labels; legs = c.route.auto.legs }) }

@@ -1,6 +1,6 @@
 use Rattle.std.proofs.Common.{◌≡◌, ap, ◌∙◌}
 use Rattle.timetable.specs.Timetables.{Timetable}
-use Rattle.timetable.proofs.HidingLemmas.{hide-twice}
+use Rattle.timetable.proofs.HidingLemmas.{hide_twice}
 use Rattle.tables.specs.Kept.{kept}
 use Rattle.thinning.specs.Dominance.{mark_of, dominated_in}
 use Rattle.layers.specs.Notices.{of_withheld, touches_shut}
@@ -15,7 +15,7 @@ pub returns : goal.returns
 returns g c =
     let b = c.args.self.now.thinned.below in
     let s = state_of g.B.Book.meaning c.args.self.now in
-    let same = hide-twice (touches_shut (kept b.quays)) (of_withheld (kept b.below.runs)) (g.B.Book.meaning b.below.below) in
+    let same = hide_twice (touches_shut (kept b.quays)) (of_withheld (kept b.below.runs)) (g.B.Book.meaning b.below.below) in
     let below = c.thin.ensures.below in
     let count : c.thin.result ≡ dominated_in (standing s) = c.thin.ensures.count ∙ ap dominated_in same in
     let after : AfterThin s (state_of g.B.Book.meaning (record { thinned = c.thin.new.self })) = record {

@@ -2,7 +2,7 @@ use Rattle.std.proofs.Common.{◌≡◌, ◌<◌, map, ap, ◌∙◌, arith}
 use Rattle.std.specs.List.{range_with_len, flat_map}
 use Rattle.image.specs.Records.{entries_in}
 use Rattle.image.specs.Meanings.{below, members}
-use Rattle.image.proofs.Clocks.{row_in, sum_fits, sum-few, sum_more}
+use Rattle.image.proofs.Clocks.{row_in, sum_fits, sum_few, sum_more}
 use Rattle.books.proofs.clock_face.ClockFace.leaving_below.Goals as goal
 
 inside : (c : goal.After-counted-sum) → c.loop-row.row < entries_in c.args.self.now.bytes.now
@@ -14,7 +14,7 @@ overflow_add-sum c = let h = sum_fits c.args.self.now.bytes.now c.loop-row.row (
 pub loop-row-preserved : goal.loop-row-preserved
 loop-row-preserved c = (
   sum_more c.args.self.now.bytes.now c.loop-row.row (inside c) c.series.result c.series.ensures c.args.quay c.counted-sum.result c.loop-row.sum c.counted-sum.ensures c.loop-row.invariant.1 c.loop-row.invariant.0,
-  sum-few c.args.self.now.bytes.now c.loop-row.row (inside c) c.series.result c.series.ensures c.args.quay c.counted-sum.result c.loop-row.sum c.counted-sum.ensures c.loop-row.invariant.1,
+  sum_few c.args.self.now.bytes.now c.loop-row.row (inside c) c.series.result c.series.ensures c.args.quay c.counted-sum.result c.loop-row.sum c.counted-sum.ensures c.loop-row.invariant.1,
 )
 
 pub returns : goal.returns

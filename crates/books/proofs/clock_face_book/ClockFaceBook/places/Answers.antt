@@ -1,9 +1,9 @@
 use Rattle.std.proofs.Common.{ap, ◌∙◌}
 use Rattle.image.specs.Meanings.{below, clock_sailings}
-use Rattle.image.proofs.Clocks.{all-below}
+use Rattle.image.proofs.Clocks.{all_below_lem}
 use Rattle.books.proofs.clock_face_book.ClockFaceBook.places.Goals as goal
 
 pub returns : goal.returns
 returns c =
     let bs = c.args.self.now.bytes.now in
-    c.leaving_below.ensures ∙ ap (λ n. below n (clock_sailings bs)) c.number_at.ensures ∙ all-below bs c.args.self.now.sound
+    c.leaving_below.ensures ∙ ap (λ n. below n (clock_sailings bs)) c.number_at.ensures ∙ all_below_lem bs c.args.self.now.sound

@@ -1,6 +1,6 @@
 use Rattle.std.proofs.Common.{sym, arith}
 use Rattle.image.specs.Meanings.{clock_sailings}
-use Rattle.image.proofs.Tables.{span-told, span_untold}
+use Rattle.image.proofs.Tables.{span_told, span_untold}
 use Rattle.books.proofs.clock_face_book.ClockFaceBook.span.Goals as goal
 
 pub returns-then-quay-number_at : goal.returns-then-quay-number_at
@@ -11,5 +11,5 @@ returns-then-quay-number_at c =
 pub returns : goal.returns
 returns c =
     let bs = c.args.self.now.bytes.now in
-    let t = span-told bs (clock_sailings bs) c.args.quay (omega (arith, c.number_at.ensures)) in
+    let t = span_told bs (clock_sailings bs) c.args.quay (omega (arith, c.number_at.ensures)) in
     rw (c.leaving_below.ensures, c.leaving_below-2.ensures) (sym t)

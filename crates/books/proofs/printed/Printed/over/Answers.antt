@@ -6,4 +6,4 @@ pub invariant_of-result-2 : goal.invariant_of-result-2
 invariant_of-result-2 c =
     let ok = ap is_ok (sym c.check_printed.ensures.value) ∙ ap is_ok c.in_default.is in
     let h = good c.args.bytes.now ok in
-    record { sound = ok; long = h.long; few = h.head.few-quays }
+    record { sound = ok; long = h.long; few = h.head.few_quays }

@@ -6,4 +6,4 @@ use Rattle.heapline.proofs.heaped.HeapLineLine.clear.Goals as goal
 pub returns : goal.returns
 returns c =
     let h = c.args.self.now in
-    turns.all-idle h.size _ c.forget.new.keys c.forget.ensures.keys (omega (arith, h.few, h.long, c.forget.auto.keys)) (line_size h)
+    turns.all_idle h.size _ c.forget.new.keys c.forget.ensures.keys (omega (arith, h.few, h.long, c.forget.auto.keys)) (line_size h)

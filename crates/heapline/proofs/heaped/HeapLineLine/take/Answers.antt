@@ -9,12 +9,12 @@ use Rattle.heapline.proofs.heaped.HeapLineLine.take.Goals as goal
 pub returns-in_err-first : goal.returns-in_err-first
 returns-in_err-first c =
     let h = c.args.self.now in
-    subst (λ r. Takes (keys_of h) r (keys_of h)) (sym c.from_residual.ensures) (turns.nothing-taken h c.in_err-first.ensures.rows.0, refl)
+    subst (λ r. Takes (keys_of h) r (keys_of h)) (sym c.from_residual.ensures) (turns.nothing_taken h c.in_err-first.ensures.rows.0, refl)
 
 pub bounds-self-first : goal.bounds-self-first
 bounds-self-first c =
     let h = c.args.self.now in
-    omega (arith, turns.taken-inside h c.in_ok-first.first c.take_least.new.self.rows c.in_ok-first.ensures.rows, h.few)
+    omega (arith, turns.taken_inside h c.in_ok-first.first c.take_least.new.self.rows c.in_ok-first.ensures.rows, h.few)
 
 pub invariant_of-self-2 : goal.invariant_of-self-2
 invariant_of-self-2 c =
@@ -22,10 +22,10 @@ invariant_of-self-2 c =
     let w = c.in_ok-first.first in
     let left = c.take_least.new.self in
     let told = c.in_ok-first.ensures in
-    let (t, long) = turns.taken-tallies h w left.rows told.rows left.count told.count in record {
+    let (t, long) = turns.taken_tallies h w left.rows told.rows left.count told.count in record {
       few = h.few;
       long = length-set h.keys w.item None ∙ h.long;
-      inside = turns.inside-set h.size h.keys w.item None (turns.taken-inside h w left.rows told.rows) h.inside;
+      inside = turns.inside_set h.size h.keys w.item None (turns.taken_inside h w left.rows told.rows) h.inside;
       single = t.single;
       tied = t.tied;
       counted = sym long ∙ t.counted;
@@ -37,4 +37,4 @@ returns c =
     let w = c.in_ok-first.first in
     let rows = c.take_least.new.self.rows in
     let told = c.in_ok-first.ensures.rows in
-    (turns.taken-first h w rows told, take-set-lt h.size h.keys w.item None (turns.taken-inside h w rows told))
+    (turns.taken_first h w rows told, take-set-lt h.size h.keys w.item None (turns.taken_inside h w rows told))

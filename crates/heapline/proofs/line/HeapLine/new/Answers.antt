@@ -1,6 +1,6 @@
 use Rattle.std.proofs.Common.{◌≡◌, ◌≤◌, take, sym, refl, ◌∙◌, subst, arith}
 use Rattle.queue.specs.Lines.{most_items}
-use Rattle.queue.proofs.Kept.{idle-rows}
+use Rattle.queue.proofs.Kept.{idle_rows}
 use Rattle.heapline.specs.Tallies.{times_of, key_of}
 use Rattle.heapline.proofs.Turns as turns
 use Rattle.heapline.proofs.line.HeapLine.new.Goals as goal
@@ -11,11 +11,11 @@ invariant_of-result c =
     let none : c.new.result.count ≡ 0 = c.new.ensures.count in record {
       few = omega (arith, c.min.ensures);
       long = refl;
-      inside = (λ i le. turns.none-idle most_items i);
+      inside = (λ i le. turns.none_idle most_items i);
       single = (λ i. subst (λ n. times_of (take n c.new.result.rows) i ≤ 1) (sym none) (omega arith));
       tied = (λ i. subst (λ n. key_of (take n c.new.result.rows) i ≡ 0) (sym none) refl ∙ turns.idle_code most_items i);
       counted = none;
     }
 
 pub returns : goal.returns
-returns c = idle-rows c.min.result _ (omega (arith, c.min.ensures)) (sym (c.min.ensures ∙ turns.size_is c.args.size))
+returns c = idle_rows c.min.result _ (omega (arith, c.min.ensures)) (sym (c.min.ensures ∙ turns.size_is c.args.size))
