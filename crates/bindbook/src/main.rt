@@ -18,6 +18,7 @@ use booktext::line::read_line;
 use image::check::check_printed;
 use std::fs;
 use std::io::{BufRead, BufReader};
+use std::process::ExitCode;
 
 const LONGEST_IMAGE: usize = 53264;
 
@@ -86,10 +87,11 @@ fn run(rt: &HostRuntime) -> anyhow::Result<()> {
     list_book(rt, written.as_slice())
 }
 
-fn main(rt: HostRuntime) -> anyhow::Result<()> {
-    let outcome = run(&rt);
-    if let Err(error) = &outcome {
+// An error is told in one line: an `Err` from here would be printed once more.
+fn main(rt: HostRuntime) -> anyhow::Result<ExitCode> {
+    if let Err(error) = run(&rt) {
         eprintln!(rt; "bindbook: {error}")?;
+        return Ok(ExitCode::FAILURE);
     }
-    outcome
+    Ok(ExitCode::SUCCESS)
 }
