@@ -1,5 +1,5 @@
 ghost use Rattle.std.specs.Prelude.{◌≡◌, length};
-ghost use Rattle.timetable.specs.Timetables.{Timetable, Lawful};
+ghost use Rattle.timetable.specs.Timetables.{Timetable, Lawful, change_at, place_at, span_at};
 ghost use Rattle.timetable.specs.Answers.{change_of, place_of, span_of};
 
 use crate::refusal::Refusal;
@@ -26,4 +26,25 @@ pub trait Book {
 
     fn span(&self, quay: u16) -> Result<Span, Refusal>
         ensures { result ≡ span_of (meaning self.now) quay };
+
+    // The same where nothing is asked of the row: no such quay takes no minutes to change,
+    fn change_at(&self, quay: u16) -> u16
+        ensures { result ≡ change_at (meaning self.now) quay }
+    {
+        self.change(quay).unwrap_or(0)
+    }
+
+    // no such place has no sailing,
+    fn sailing_at(&self, place: u16) -> Option<Sailing>
+        ensures { result ≡ place_at (meaning self.now) place }
+    {
+        self.place(place).unwrap_or(None)
+    }
+
+    // and no such quay has no places.
+    fn span_at(&self, quay: u16) -> Span
+        ensures { result ≡ span_at (meaning self.now) quay }
+    {
+        self.span(quay).unwrap_or(Span { start: 0, end: 0 })
+    }
 }
