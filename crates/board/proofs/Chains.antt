@@ -2,7 +2,7 @@
 use Rattle.std.proofs.Common.{◌≡◌, List, [], ◌∷◌, ◌++◌, sym, refl, ap}
 use Rattle.timetable.specs.Timetables.{Timetable}
 use Rattle.routing.specs.Route.{Lent}
-use Rattle.board.specs.declared.calls.Call.{Call}
+use Rattle.timetable.specs.declared.call.Call.{Call}
 use Rattle.board.specs.declared.calls.Answer.{Answer}
 use Rattle.board.specs.History.{event, History, new, ◌then◌, calls_of, answers_of, Passed}
 use Rattle.board.specs.States.{State}

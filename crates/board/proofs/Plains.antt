@@ -5,8 +5,8 @@ use Rattle.timetable.proofs.HidingLemmas.{hide_same}
 use Rattle.tables.proofs.Counts.{many_same}
 use Rattle.layers.specs.Notices.{withhold_answer, release_answer, shut_answer, open_answer}
 use Rattle.routing.specs.Route.{Lent}
-use Rattle.board.specs.declared.calls.Call.{Call}
-use Rattle.board.specs.declared.calls.Call.TheVariants.{Withhold, Release, Shut, Open, Thin, Route}
+use Rattle.timetable.specs.declared.call.Call.{Call}
+use Rattle.timetable.specs.declared.call.Call.TheVariants.{Withhold, Release, Shut, Open, Thin, Route}
 use Rattle.board.specs.declared.calls.Answer.{Answer}
 use Rattle.board.specs.History.{event, History, new, ◌then◌, calls_of}
 use Rattle.board.specs.Force.{accepted, withheld, is_shut, all_runs, out_of_force}

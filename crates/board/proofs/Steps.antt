@@ -15,8 +15,8 @@ use Rattle.thinning.proofs.Tested.{dominance}
 use Rattle.layers.specs.Notices.{Notice as Reply, most_runs, most_quays, withhold_answer, release_answer, shut_answer, open_answer, of_withheld, touches_shut}
 use Rattle.routing.specs.declared.found.Found.{Found}
 use Rattle.routing.specs.Route.{Lent, Routed}
-use Rattle.board.specs.declared.calls.Call.{Call}
-use Rattle.board.specs.declared.calls.Call.TheVariants.{Withhold, Release, Shut, Open, Thin, Route}
+use Rattle.timetable.specs.declared.call.Call.{Call}
+use Rattle.timetable.specs.declared.call.Call.TheVariants.{Withhold, Release, Shut, Open, Thin, Route}
 use Rattle.board.specs.declared.calls.Answer.TheVariants.{Notice, Count, Told}
 use Rattle.board.specs.History.{event, History, new, ◌then◌}
 use Rattle.board.specs.Force.{for_run, for_quay, forbids, withheld, is_shut, all_runs, runs_withheld, quays_shut, out_of_force, book_in_force}

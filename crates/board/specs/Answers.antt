@@ -6,8 +6,8 @@ use Rattle.thinning.specs.Dominance.{dominated_in}
 use Rattle.layers.specs.Notices.{withhold_answer, release_answer, shut_answer, open_answer}
 use Rattle.routing.specs.declared.found.Found.{Found}
 use Rattle.routing.specs.Route.{Lent, Routed}
-use Rattle.board.specs.declared.calls.Call.{Call}
-use Rattle.board.specs.declared.calls.Call.TheVariants.{Withhold, Release, Shut, Open, Thin, Route}
+use Rattle.timetable.specs.declared.call.Call.{Call}
+use Rattle.timetable.specs.declared.call.Call.TheVariants.{Withhold, Release, Shut, Open, Thin, Route}
 use Rattle.board.specs.declared.calls.Answer.{Answer}
 use Rattle.board.specs.declared.calls.Answer.TheVariants.{Notice, Count, Told}
 use Rattle.board.specs.History.{Event, History, new, ◌then◌}

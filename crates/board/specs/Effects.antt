@@ -4,8 +4,8 @@ use Rattle.timetable.specs.declared.refusal.Refusal.{Refusal}
 use Rattle.thinning.specs.Dominance.{dominated_in}
 use Rattle.routing.specs.declared.found.Found.{Found}
 use Rattle.routing.specs.Route.{Lent, Routed}
-use Rattle.board.specs.declared.calls.Call.{Call}
-use Rattle.board.specs.declared.calls.Call.TheVariants.{Withhold, Release, Shut, Open, Thin, Route}
+use Rattle.timetable.specs.declared.call.Call.{Call}
+use Rattle.timetable.specs.declared.call.Call.TheVariants.{Withhold, Release, Shut, Open, Thin, Route}
 use Rattle.board.specs.declared.calls.Answer.{Answer}
 use Rattle.board.specs.declared.calls.Answer.TheVariants.{Notice, Count, Told}
 use Rattle.board.specs.States.{State, standing, shown, on_withhold, on_release, on_shut, on_open, after_withhold, after_release, after_shut, after_open, AfterThin}

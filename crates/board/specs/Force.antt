@@ -4,8 +4,8 @@ use Rattle.timetable.specs.declared.sailing.Sailing.{Sailing}
 use Rattle.timetable.specs.Timetables.{Timetable}
 use Rattle.timetable.specs.Hiding.{hide}
 use Rattle.tables.specs.Lists.{many}
-use Rattle.board.specs.declared.calls.Call.{Call}
-use Rattle.board.specs.declared.calls.Call.TheVariants.{Withhold, Release, Shut, Open, Thin, Route}
+use Rattle.timetable.specs.declared.call.Call.{Call}
+use Rattle.timetable.specs.declared.call.Call.TheVariants.{Withhold, Release, Shut, Open, Thin, Route}
 use Rattle.board.specs.declared.calls.Answer.{Answer}
 use Rattle.board.specs.declared.calls.Answer.TheVariants.{Notice, Count, Told}
 use Rattle.board.specs.History.{History, new, ◌then◌}

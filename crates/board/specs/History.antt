@@ -1,7 +1,7 @@
 -- The calls on a board and their answers, one after the other. Assumes nothing.
 use Rattle.std.specs.Prelude.{◌≡◌, List, [], ◌∷◌, ◌++◌}
 use Rattle.routing.specs.Route.{Lent}
-use Rattle.board.specs.declared.calls.Call.{Call}
+use Rattle.timetable.specs.declared.call.Call.{Call}
 use Rattle.board.specs.declared.calls.Answer.{Answer}
 
 -- a call and its answer, and what was lent beside it, as it was given and as it was left

@@ -4,7 +4,7 @@ use Rattle.timetable.specs.Timetables.{Timetable}
 use Rattle.tables.specs.Lists.{has}
 use Rattle.thinning.specs.Thinning.{marked, Picks}
 use Rattle.routing.specs.Route.{Lent}
-use Rattle.board.specs.declared.calls.Call.{Call}
+use Rattle.timetable.specs.declared.call.Call.{Call}
 use Rattle.board.specs.declared.calls.Answer.{Answer}
 use Rattle.board.specs.History.{Event, event, History, ◌then◌}
 use Rattle.board.specs.Force.{withheld, is_shut, all_runs, book_in_force}

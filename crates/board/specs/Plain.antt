@@ -4,8 +4,8 @@ use Rattle.timetable.specs.Timetables.{Timetable}
 use Rattle.timetable.specs.Hiding.{hide}
 use Rattle.tables.specs.Lists.{many}
 use Rattle.layers.specs.Notices.{withhold_answer, release_answer, shut_answer, open_answer}
-use Rattle.board.specs.declared.calls.Call.{Call}
-use Rattle.board.specs.declared.calls.Call.TheVariants.{Withhold, Release, Shut, Open, Thin, Route}
+use Rattle.timetable.specs.declared.call.Call.{Call}
+use Rattle.timetable.specs.declared.call.Call.TheVariants.{Withhold, Release, Shut, Open, Thin, Route}
 use Rattle.board.specs.History.{History, calls_of}
 use Rattle.board.specs.Force.{withheld, is_shut, all_runs, book_in_force}
 use Rattle.board.specs.Answers.{AllRight}

@@ -2,7 +2,7 @@
 ghost use Rattle.std.specs.Prelude.{◌≡◌};
 ghost use Rattle.thinning.specs.Dominance.{dominated_in};
 ghost use Rattle.routing.specs.Route.{lent, Routed};
-ghost use Rattle.board.specs.declared.calls.Call.TheVariants.{Withhold, Release, Shut, Open, Thin, Route};
+ghost use Rattle.timetable.specs.declared.call.Call.TheVariants.{Withhold, Release, Shut, Open, Thin, Route};
 ghost use Rattle.board.specs.declared.calls.Answer.TheVariants.{Notice, Count, Told};
 ghost use Rattle.board.specs.History.{event, new as begun};
 ghost use Rattle.board.specs.States.{opening, standing, shown, on_withhold, on_release, on_shut, on_open, after_withhold, after_release, after_shut, after_open, AfterThin};

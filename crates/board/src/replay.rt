@@ -8,11 +8,12 @@ ghost use Rattle.board.specs.Effects.{Does};
 ghost use Rattle.board.specs.Replays.{Replayed};
 
 use crate::board::Board;
-use crate::calls::{Answer, Call};
+use crate::calls::Answer;
 use queue::line::Line;
 use routing::label::Label;
 use std::alloc::{AllocError, Global};
 use timetable::book::Book;
+use timetable::call::Call;
 use timetable::query::Leg;
 
 // One call on a board.

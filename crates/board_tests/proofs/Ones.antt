@@ -9,7 +9,7 @@ use Rattle.tables.specs.Lists.{many}
 use Rattle.layers.specs.Notices.{Notice as Reply, withhold_answer}
 use Rattle.routing.specs.declared.found.Found.{Found}
 use Rattle.routing.specs.Route.{Lent, Routed}
-use Rattle.board.specs.declared.calls.Call.TheVariants.{Withhold, Thin, Route}
+use Rattle.timetable.specs.declared.call.Call.TheVariants.{Withhold, Thin, Route}
 use Rattle.board.specs.declared.calls.Answer.TheVariants.{Notice, Count, Told}
 use Rattle.board.specs.History.{event, History, new, ◌then◌}
 use Rattle.board.specs.Force.{all_runs, out_of_force, book_in_force}

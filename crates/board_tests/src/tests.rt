@@ -1,12 +1,13 @@
 use crate::forty::FortyQuays;
 use board::board::Board;
-use board::calls::{Answer, Call};
+use board::calls::Answer;
 use board::replay::{apply, replay_into};
 use queue::table::Table;
 use routing::found::Found;
 use routing::label::Label;
 use routing_tests::quays::FourQuays;
 use timetable::book::Book;
+use timetable::call::Call;
 use timetable::query::{Leg, Query};
 use timetable::refusal::Refusal;
 use timetable::sailing::Sailing;

@@ -1,6 +1,5 @@
 //! The desk where commands are taken and answered.
 use crate::answers::*;
-use crate::calls::call_of;
 use board::board::Board;
 use board::replay::apply;
 use queue::line::Line;
@@ -35,13 +34,13 @@ pub(crate) fn serve<B: Book + Drop>(rt: &HostRuntime, book: B) -> anyhow::Result
             let _ = line.pop();
         }
         match read_command(line.as_slice()) {
-            Ok(command) => {
+            Ok(call) => {
                 let answer = apply(
                     &mut board,
                     &mut waiting,
                     labels.as_mut_slice(),
                     legs.as_mut_slice(),
-                    call_of(command),
+                    call,
                 );
                 print_answer(rt, board.in_force(), legs.as_slice(), answer)?;
             }

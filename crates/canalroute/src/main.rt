@@ -2,7 +2,6 @@
 #![tactic(auto)]
 
 mod answers;
-mod calls;
 mod desk;
 
 use crate::answers::print_text;

@@ -1,8 +1,8 @@
 //! Strings of calls drawn by lot.
 use crate::draft::Scale;
 use crate::lots::Lots;
-use board::calls::Call;
 use std::alloc::{AllocError, Global};
+use timetable::call::Call;
 use timetable::query::Query;
 
 // Which lots of 100 are calls of each kind: those below the bound, and the others are routes.

@@ -1,9 +1,9 @@
 //! What each call should answer, worked out from the rules alone.
 use crate::outcome::Outcome;
 use crate::times::*;
-use board::calls::Call;
 use image::quay::Quay;
 use std::alloc::{AllocError, Global};
+use timetable::call::Call;
 use timetable::query::Query;
 use timetable::sailing::Sailing;
 

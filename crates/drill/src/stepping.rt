@@ -5,12 +5,13 @@ use crate::tally::Tally;
 use crate::vetting::*;
 use anyhow::anyhow;
 use board::board::Board;
-use board::calls::{Answer, Call};
+use board::calls::Answer;
 use board::replay::{apply, replay_into};
 use books::printed::Printed;
 use queue::table::Table;
 use routing::label::Label;
 use std::alloc::{AllocError, Global};
+use timetable::call::Call;
 use timetable::query::Leg;
 
 // What routes are lent.

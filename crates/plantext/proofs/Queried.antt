@@ -7,8 +7,8 @@ use Rattle.timetable.specs.declared.refusal.Refusal.{Refusal}
 use Rattle.timetable.specs.declared.refusal.Refusal.TheVariants.{NoLetter, NoNumber, Surplus, LongLine}
 use Rattle.timetable.specs.declared.query.Query.{Query}
 use Rattle.numerals.specs.Numbers.{number_at}
-use Rattle.typed.specs.declared.command.Command.{Command}
-use Rattle.typed.specs.declared.command.Command.TheVariants.{Route}
+use Rattle.timetable.specs.declared.call.Call.{Call}
+use Rattle.timetable.specs.declared.call.Call.TheVariants.{Route}
 use Rattle.typed.specs.Commands.{by_letter, command_of}
 use Rattle.typed.specs.Fields.{and_then, query_with, query_of}
 use Rattle.typed.proofs.Sayings.{says}
@@ -66,7 +66,7 @@ after_says line b = record { right = right (query_of line) refl; only = only }
         which (inl p) = inl ((says line).misses.0 (refused ∙ ap Err p), p)
         which (inr p) = inr ((says line).exceeds.0 (refused ∙ ap Err p), p)
 
-    command : (r : Result Command Refusal) → command_of line ≡ r → and_then r query_in ≡ query_of line
+    command : (r : Result Call Refusal) → command_of line ≡ r → and_then r query_in ≡ query_of line
     command r e = ap (λ c. and_then c query_in) (sym e) ∙ from_command line b
 
     only : (o : Result Query Refusal) → Answers (QueryStands line) (After line 81 (QueryStands line) (QueryMisses line) (QueryExceeds line)) o → o ≡ query_of line

@@ -8,8 +8,8 @@ use Rattle.timetable.specs.declared.query.Leg.{Leg}
 use Rattle.numerals.specs.declared.field.Field.{Field}
 use Rattle.numerals.specs.declared.wide_field.WideField.{WideField}
 use Rattle.numerals.specs.Wides.{wide_at}
-use Rattle.typed.specs.declared.command.Command.{Command}
-use Rattle.typed.specs.declared.command.Command.TheVariants.{Withhold, Release, Shut, Open, Thin, Route}
+use Rattle.timetable.specs.declared.call.Call.{Call}
+use Rattle.timetable.specs.declared.call.Call.TheVariants.{Withhold, Release, Shut, Open, Thin, Route}
 use Rattle.typed.specs.Fields.{number_here, and_then, whole, query_of}
 
 -- a line of at most 64 bytes that begins with this letter
@@ -20,7 +20,7 @@ lettered line letter =
     (cond (slice_index line 0 == letter) (Ok tt) (Err NoLetter)))
 
 -- the query of a command that asks for a route
-abbrev pub query_in : Command → Result Query Refusal
+abbrev pub query_in : Call → Result Query Refusal
 query_in (Withhold run) = Err NoLetter
 query_in (Release run) = Err NoLetter
 query_in (Shut quay) = Err NoLetter

@@ -6,7 +6,7 @@ use Rattle.numerals.specs.declared.field.Field.{Field}
 use Rattle.numerals.specs.declared.wide_field.WideField.{WideField}
 use Rattle.numerals.specs.Numbers.{Numeral}
 use Rattle.numerals.specs.Wides.{WideNumeral}
-use Rattle.typed.specs.declared.command.Command.TheVariants.{Route}
+use Rattle.timetable.specs.declared.call.Call.TheVariants.{Route}
 use Rattle.typed.specs.Saying.{Asks, Misses, Exceeds}
 
 -- a line of at most 64 bytes that begins with this letter

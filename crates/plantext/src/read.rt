@@ -5,9 +5,9 @@ ghost use Rattle.plantext.specs.Saying.{QuerySays, LegSays};
 
 use numerals::number::number_field;
 use numerals::wide::wide_number_field;
+use timetable::call::Call;
 use timetable::query::{Leg, Query};
 use timetable::refusal::Refusal;
-use typed::command::Command;
 use typed::read::read_command;
 
 const LONGEST_LINE: usize = 64;
@@ -26,11 +26,11 @@ fn begins(line: &[u8], letter: u8) -> Result<(), Refusal>
 }
 
 // The query of a command that asks for a route. No other command begins with its letter.
-fn query_in(command: Command) -> Result<Query, Refusal>
+fn query_in(command: Call) -> Result<Query, Refusal>
     ensures { result ≡ query_in command }
 {
     match command {
-        Command::Route(query) => Ok(query),
+        Call::Route(query) => Ok(query),
         _ => Err(Refusal::NoLetter),
     }
 }

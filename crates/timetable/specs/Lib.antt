@@ -4,3 +4,4 @@ pub mod Times
 pub mod Classes
 pub mod Timetables
 pub mod Hiding
+pub mod Queries

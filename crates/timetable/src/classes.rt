@@ -9,8 +9,5 @@ static MINUTES: [u16; 8] = [0, 5, 10, 15, 20, 25, 30, 45];
 pub fn class_minutes(class: u16) -> Result<u16, Refusal>
     ensures { result ≡ minutes_for class }
 {
-    if class > 7 {
-        return Err(Refusal::NoClass);
-    }
-    Ok(MINUTES[class as usize])
+    MINUTES.get(class as usize).copied().ok_or(Refusal::NoClass)
 }

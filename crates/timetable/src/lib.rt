@@ -2,6 +2,7 @@
 #![tactic(auto)]
 
 pub mod book;
+pub mod call;
 pub mod classes;
 pub mod hiding;
 pub mod query;

@@ -1,5 +1,14 @@
+ghost use Rattle.std.specs.Prelude.{◌≡◌};
+ghost use Rattle.timetable.specs.Queries.{query_cause, unless, Judges};
+
+use crate::refusal::Refusal;
+
+const LAST_MINUTE: u16 = 1439;
+
+const LAST_CLASS: u16 = 7;
+
 // What is asked of a route: from where, to where, from which minute of the day, with which class of cargo.
-#[derive(Clone, Copy)]
+#[derive(Clone, Copy, PartialEq, Debug)]
 pub struct Query {
     pub from: u16,
     pub to: u16,
@@ -8,9 +17,34 @@ pub struct Query {
 }
 
 // One leg of a journey: the place of its sailing, and the minutes at which it leaves and arrives, counted from the midnight before the query.
-#[derive(Clone, Copy)]
+#[derive(Clone, Copy, PartialEq, Debug)]
 pub struct Leg {
     pub place: u16,
     pub leaves: u32,
     pub arrives: u32,
+}
+
+impl Query {
+    // Whether it can be asked of a book with this many quays. Of several faults the one with the lowest number is told.
+    pub fn check(self, quays: u16) -> Result<(), Refusal>
+        ensures value { result ≡ unless (query_cause self quays) tt }
+        ensures lowest { Judges self quays result }
+    {
+        checked(self, quays)
+    }
+}
+
+fn checked(query: Query, quays: u16) -> Result<(), Refusal>
+    ensures { result ≡ unless (query_cause query quays) tt }
+{
+    if query.from >= quays || query.to >= quays {
+        return Err(Refusal::NoQuay);
+    }
+    if query.minute > LAST_MINUTE {
+        return Err(Refusal::LateMinute);
+    }
+    if query.class > LAST_CLASS {
+        return Err(Refusal::NoClass);
+    }
+    Ok(())
 }

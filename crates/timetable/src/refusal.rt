@@ -1,45 +1,45 @@
 ghost use Rattle.std.specs.Prelude.{◌≡◌};
 ghost use Rattle.timetable.specs.Refusals.{number_of};
 
-// Every reason for which a call may refuse what it was handed.
-#[derive(Clone, Copy)]
+// Every reason for which a call may refuse what it was handed, with the number by which it is told.
+#[derive(Clone, Copy, PartialEq, Debug)]
 pub enum Refusal {
     // images
-    CutOff,
-    NotDue,
-    OutOfLimits,
-    FromFalls,
-    BytesFollow,
-    SeriesLeaves,
+    CutOff = 1,
+    NotDue = 2,
+    OutOfLimits = 3,
+    FromFalls = 4,
+    BytesFollow = 5,
+    SeriesLeaves = 6,
     // numbers
-    NoQuay,
-    LateMinute,
-    NoPlace,
-    NoClass,
+    NoQuay = 11,
+    LateMinute = 12,
+    NoPlace = 13,
+    NoClass = 14,
     // memory
-    ShortBuffer,
-    SmallLine,
-    HeapFull,
-    NoRank,
-    NoItem,
+    ShortBuffer = 21,
+    SmallLine = 22,
+    HeapFull = 23,
+    NoRank = 24,
+    NoItem = 25,
     // notices
-    RunWithheld,
-    RunNotWithheld,
-    RunsFull,
-    QuayShut,
-    QuayNotShut,
-    QuaysFull,
+    RunWithheld = 31,
+    RunNotWithheld = 32,
+    RunsFull = 33,
+    QuayShut = 34,
+    QuayNotShut = 35,
+    QuaysFull = 36,
     // plans
-    NoSailing,
-    WrongMinutes,
-    WrongQuay,
-    TooEarly,
-    EndsElsewhere,
+    NoSailing = 41,
+    WrongMinutes = 42,
+    WrongQuay = 43,
+    TooEarly = 44,
+    EndsElsewhere = 45,
     // typed lines
-    NoLetter,
-    NoNumber,
-    Surplus,
-    LongLine,
+    NoLetter = 51,
+    NoNumber = 52,
+    Surplus = 53,
+    LongLine = 54,
 }
 
 impl Refusal {
@@ -47,37 +47,6 @@ impl Refusal {
     pub fn number(self) -> u8
         ensures { result ≡ number_of self }
     {
-        match self {
-            Refusal::CutOff => 1,
-            Refusal::NotDue => 2,
-            Refusal::OutOfLimits => 3,
-            Refusal::FromFalls => 4,
-            Refusal::BytesFollow => 5,
-            Refusal::SeriesLeaves => 6,
-            Refusal::NoQuay => 11,
-            Refusal::LateMinute => 12,
-            Refusal::NoPlace => 13,
-            Refusal::NoClass => 14,
-            Refusal::ShortBuffer => 21,
-            Refusal::SmallLine => 22,
-            Refusal::HeapFull => 23,
-            Refusal::NoRank => 24,
-            Refusal::NoItem => 25,
-            Refusal::RunWithheld => 31,
-            Refusal::RunNotWithheld => 32,
-            Refusal::RunsFull => 33,
-            Refusal::QuayShut => 34,
-            Refusal::QuayNotShut => 35,
-            Refusal::QuaysFull => 36,
-            Refusal::NoSailing => 41,
-            Refusal::WrongMinutes => 42,
-            Refusal::WrongQuay => 43,
-            Refusal::TooEarly => 44,
-            Refusal::EndsElsewhere => 45,
-            Refusal::NoLetter => 51,
-            Refusal::NoNumber => 52,
-            Refusal::Surplus => 53,
-            Refusal::LongLine => 54,
-        }
+        self as u8
     }
 }

@@ -6,34 +6,34 @@ use Rattle.timetable.specs.declared.refusal.Refusal.{Refusal}
 use Rattle.timetable.specs.declared.refusal.Refusal.TheVariants.{NoLetter, Surplus}
 use Rattle.timetable.specs.declared.query.Query.{Query}
 use Rattle.numerals.specs.declared.field.Field.{Field}
-use Rattle.typed.specs.declared.command.Command.{Command}
-use Rattle.typed.specs.declared.command.Command.TheVariants.{Withhold, Release, Shut, Open, Thin, Route}
+use Rattle.timetable.specs.declared.call.Call.{Call}
+use Rattle.timetable.specs.declared.call.Call.TheVariants.{Withhold, Release, Shut, Open, Thin, Route}
 use Rattle.typed.specs.Fields.{number_here, and_then, whole, one_of, query_with, query_of}
 use Rattle.typed.specs.Commands.{by_letter}
 use Rattle.typed.specs.Forms.{letter_of, numbers_of, due}
 use Rattle.typed.proofs.Counted.{put, numbers}
 
-abbrev pub numbers_in : Result Command Refusal → Result (List ℕ) Refusal
+abbrev pub numbers_in : Result Call Refusal → Result (List ℕ) Refusal
 numbers_in r = result_map_both numbers_of (λ e. e) r
 
 -- what an answer to a line has to be by its letter: of none, a refusal, and of one, the numbers due with that letter
-abbrev pub Way : List ℕ → ℕ → Option ℕ → Result Command Refusal → Type 0
+abbrev pub Way : List ℕ → ℕ → Option ℕ → Result Call Refusal → Type 0
 Way line letter None r = r ≡ Err NoLetter
-Way line letter (Some n) r = (numbers_in r ≡ numbers line 1 n) × ((c : Command) → r ≡ Ok c → letter_of c ≡ letter)
+Way line letter (Some n) r = (numbers_in r ≡ numbers line 1 n) × ((c : Call) → r ≡ Ok c → letter_of c ≡ letter)
 
 -- one letter, before the others
-step : (line : List ℕ) (letter : ℕ) (b : Bool) (n : ℕ) (r rest : Result Command Refusal) (others : Option ℕ) → (b ≡ true → Way line letter (Some n) r) → Way line letter others rest → Way line letter (cond b (Some n) others) (cond b r rest)
+step : (line : List ℕ) (letter : ℕ) (b : Bool) (n : ℕ) (r rest : Result Call Refusal) (others : Option ℕ) → (b ≡ true → Way line letter (Some n) r) → Way line letter others rest → Way line letter (cond b (Some n) others) (cond b r rest)
 step line letter true n r rest others here after = here refl
 step line letter false n r rest others here after = after
 
-same_letter : {X : Type 0} (F : X → Command) (letter : ℕ) → ((x : X) → letter_of (F x) ≡ letter) → (r : Result X Refusal) (c : Command) → result_map_both F (λ e. e) r ≡ Ok c → letter_of c ≡ letter
+same_letter : {X : Type 0} (F : X → Call) (letter : ℕ) → ((x : X) → letter_of (F x) ≡ letter) → (r : Result X Refusal) (c : Call) → result_map_both F (λ e. e) r ≡ Ok c → letter_of c ≡ letter
 same_letter F letter l (Ok x) c h = ap letter_of (same (F x) c h) ∙ l x
   where
-    same : (a b : Command) → ◌≡◌ {A = Result Command Refusal} (Ok a) (Ok b) → b ≡ a
+    same : (a b : Call) → ◌≡◌ {A = Result Call Refusal} (Ok a) (Ok b) → b ≡ a
     same a b e = cc
 same_letter F letter l (Err e) c h = let z : ◌≡◌ {A = ℕ} 0 1 = cc in absurd (omega arith)
 
-one_way : (line : List ℕ) (letter : ℕ) (F : ℕ → Command) → ((v : ℕ) → numbers_of (F v) ≡ v ∷ []) → ((v : ℕ) → letter_of (F v) ≡ letter) → Way line letter (Some 1) (result_map_both F (λ e. e) (one_of line))
+one_way : (line : List ℕ) (letter : ℕ) (F : ℕ → Call) → ((v : ℕ) → numbers_of (F v) ≡ v ∷ []) → ((v : ℕ) → letter_of (F v) ≡ letter) → Way line letter (Some 1) (result_map_both F (λ e. e) (one_of line))
 one_way line letter F vs l = (reads (number_here line 1), same_letter F letter l (one_of line))
   where
     ends : (b : Bool) (v : ℕ) → numbers_in (result_map_both F (λ e. e) (cond b (Ok v) (Err Surplus))) ≡ put v (cond b (Ok []) (Err Surplus))
@@ -51,10 +51,10 @@ thin_way line letter l = (ends (eqb 1 (length line)), of_thin (eqb 1 (length lin
     ends true = refl
     ends false = refl
 
-    of_thin : (b : Bool) (c : Command) → cond b (Ok Thin) (Err Surplus) ≡ Ok c → letter_of c ≡ letter
+    of_thin : (b : Bool) (c : Call) → cond b (Ok Thin) (Err Surplus) ≡ Ok c → letter_of c ≡ letter
     of_thin true c h = ap letter_of (same Thin c h) ∙ l
       where
-        same : (a b : Command) → ◌≡◌ {A = Result Command Refusal} (Ok a) (Ok b) → b ≡ a
+        same : (a b : Call) → ◌≡◌ {A = Result Call Refusal} (Ok a) (Ok b) → b ≡ a
         same a b e = cc
     of_thin false c h = let z : ◌≡◌ {A = ℕ} 0 1 = cc in absurd (omega arith)
 

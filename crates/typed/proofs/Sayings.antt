@@ -3,8 +3,8 @@ use Rattle.std.proofs.Common.{◌≡◌, ℕ, ◌<◌, ◌≤◌, cond, eqb, ltb
 use Rattle.std.proofs.lemmas.Bool.{cases_lt, lt-ltb, le-ltb, ne_eqb, cond-true, cond-false}
 use Rattle.timetable.specs.declared.refusal.Refusal.{Refusal}
 use Rattle.timetable.specs.declared.refusal.Refusal.TheVariants.{NoLetter, NoNumber, Surplus, LongLine}
-use Rattle.typed.specs.declared.command.Command.{Command}
-use Rattle.typed.specs.declared.command.Command.TheVariants.{Withhold, Release, Shut, Open, Thin, Route}
+use Rattle.timetable.specs.declared.call.Call.{Call}
+use Rattle.timetable.specs.declared.call.Call.TheVariants.{Withhold, Release, Shut, Open, Thin, Route}
 use Rattle.typed.specs.Commands.{by_letter, command_of}
 use Rattle.typed.specs.Forms.{letter_of, numbers_of, due}
 use Rattle.typed.specs.Saying.{Begins, Asks, Misses, Exceeds, Says}
@@ -12,7 +12,7 @@ use Rattle.typed.proofs.Counted.{numbers, read_stand, stand_read, few_tells, few
 use Rattle.typed.proofs.Lettering.{numbers_in, Way, way}
 
 -- a command by its letter and its numbers
-abbrev back : ℕ → List ℕ → Command
+abbrev back : ℕ → List ℕ → Call
 back letter vs =
     cond (eqb letter 87) (Withhold (get_or vs 0 0))
     (cond (eqb letter 82) (Release (get_or vs 0 0))
@@ -20,7 +20,7 @@ back letter vs =
     (cond (eqb letter 79) (Open (get_or vs 0 0))
     (cond (eqb letter 84) Thin (Route (record { from = get_or vs 0 0; to = get_or vs 1 0; minute = get_or vs 2 0; class = get_or vs 3 0 }))))))
 
-back_is : (c : Command) → back (letter_of c) (numbers_of c) ≡ c
+back_is : (c : Call) → back (letter_of c) (numbers_of c) ≡ c
 back_is (Withhold run) = refl
 back_is (Release run) = refl
 back_is (Shut quay) = refl
@@ -28,7 +28,7 @@ back_is (Open quay) = refl
 back_is Thin = refl
 back_is (Route q) = refl
 
-due_is : (c : Command) → due (letter_of c) ≡ Some (length (numbers_of c))
+due_is : (c : Call) → due (letter_of c) ≡ Some (length (numbers_of c))
 due_is (Withhold run) = refl
 due_is (Release run) = refl
 due_is (Shut quay) = refl
@@ -37,7 +37,7 @@ due_is Thin = refl
 due_is (Route q) = refl
 
 -- letter and numbers make the command
-same_command : (c d : Command) → letter_of c ≡ letter_of d → numbers_of c ≡ numbers_of d → c ≡ d
+same_command : (c d : Call) → letter_of c ≡ letter_of d → numbers_of c ≡ numbers_of d → c ≡ d
 same_command c d l v = sym (back_is c) ∙ (ap (λ k. back k (numbers_of c)) l ∙ (ap (back (letter_of d)) v ∙ back_is d))
 
 same_first : (line : List ℕ) (letter : ℕ) → take 1 line ≡ letter ∷ [] → get_or line 0 0 ≡ letter
@@ -53,28 +53,28 @@ same_some m n d p q = cc
 some_none : (n : ℕ) (d : Option ℕ) → d ≡ Some n → d ≡ None → ⊥
 some_none n d p q = let z : ◌≡◌ {A = ℕ} 0 1 = cc in omega arith
 
-ok_err : (r : Result Command Refusal) (c : Command) (e : Refusal) → r ≡ Ok c → r ≡ Err e → ⊥
+ok_err : (r : Result Call Refusal) (c : Call) (e : Refusal) → r ≡ Ok c → r ≡ Err e → ⊥
 ok_err r c e p q = let z : ◌≡◌ {A = ℕ} 0 1 = cc in omega arith
 
-long_letter : (r : Result Command Refusal) → r ≡ Err LongLine → r ≡ Err NoLetter → ⊥
+long_letter : (r : Result Call Refusal) → r ≡ Err LongLine → r ≡ Err NoLetter → ⊥
 long_letter r p q = let z : ◌≡◌ {A = ℕ} 0 1 = cc in omega arith
 
-long_number : (r : Result Command Refusal) → r ≡ Err LongLine → r ≡ Err NoNumber → ⊥
+long_number : (r : Result Call Refusal) → r ≡ Err LongLine → r ≡ Err NoNumber → ⊥
 long_number r p q = let z : ◌≡◌ {A = ℕ} 0 1 = cc in omega arith
 
-long_surplus : (r : Result Command Refusal) → r ≡ Err LongLine → r ≡ Err Surplus → ⊥
+long_surplus : (r : Result Call Refusal) → r ≡ Err LongLine → r ≡ Err Surplus → ⊥
 long_surplus r p q = let z : ◌≡◌ {A = ℕ} 0 1 = cc in omega arith
 
-letter_number : (r : Result Command Refusal) → r ≡ Err NoLetter → r ≡ Err NoNumber → ⊥
+letter_number : (r : Result Call Refusal) → r ≡ Err NoLetter → r ≡ Err NoNumber → ⊥
 letter_number r p q = let z : ◌≡◌ {A = ℕ} 0 1 = cc in omega arith
 
-letter_surplus : (r : Result Command Refusal) → r ≡ Err NoLetter → r ≡ Err Surplus → ⊥
+letter_surplus : (r : Result Call Refusal) → r ≡ Err NoLetter → r ≡ Err Surplus → ⊥
 letter_surplus r p q = let z : ◌≡◌ {A = ℕ} 0 1 = cc in omega arith
 
 too_long : (line : List ℕ) (letter n : ℕ) → 64 < length line → Begins line letter n → ⊥
 too_long line letter n l b = omega (arith, b.short)
 
-long_says : (line : List ℕ) (r : Result Command Refusal) → r ≡ Err LongLine → 64 < length line → Says line r
+long_says : (line : List ℕ) (r : Result Call Refusal) → r ≡ Err LongLine → 64 < length line → Says line r
 long_says line r e l = record {
   asks = λ c. (λ h. absurd (ok_err r c LongLine h e), λ a. absurd (too_long line _ _ l a.begins));
   long = (λ h. l, λ h. e);
@@ -83,7 +83,7 @@ long_says line r e l = record {
   exceeds = (λ h. absurd (long_surplus r e h), λ m. absurd (too_long line _ _ l m.begins));
 }
 
-unlettered_says : (line : List ℕ) (r : Result Command Refusal) → r ≡ Err NoLetter → length line ≤ 64 → due (get_or line 0 0) ≡ None → Says line r
+unlettered_says : (line : List ℕ) (r : Result Call Refusal) → r ≡ Err NoLetter → length line ≤ 64 → due (get_or line 0 0) ≡ None → Says line r
 unlettered_says line r e l d = record {
   asks = λ c. (λ h. absurd (ok_err r c NoLetter h e), λ a. absurd (some_none _ _ (begins-due line _ _ a.begins) d));
   long = (λ h. absurd (long_letter r h e), λ h. absurd (omega arith));
@@ -92,18 +92,18 @@ unlettered_says line r e l d = record {
   exceeds = (λ h. absurd (letter_surplus r e h), λ m. absurd (some_none _ _ (begins-due line _ _ m.begins) d));
 }
 
-numbers_err : (r : Result Command Refusal) (e : Refusal) → numbers_in r ≡ Err e → r ≡ Err e
+numbers_err : (r : Result Call Refusal) (e : Refusal) → numbers_in r ≡ Err e → r ≡ Err e
 numbers_err (Ok c) e h = let z : ◌≡◌ {A = ℕ} 0 1 = cc in absurd (omega arith)
 numbers_err (Err d) e h = cc
 
-numbers_ok : (r : Result Command Refusal) (c : Command) (letter : ℕ) → ((d : Command) → r ≡ Ok d → letter_of d ≡ letter) → letter_of c ≡ letter → numbers_in r ≡ Ok (numbers_of c) → r ≡ Ok c
+numbers_ok : (r : Result Call Refusal) (c : Call) (letter : ℕ) → ((d : Call) → r ≡ Ok d → letter_of d ≡ letter) → letter_of c ≡ letter → numbers_in r ≡ Ok (numbers_of c) → r ≡ Ok c
 numbers_ok (Ok d) c letter l k h = ap Ok (same_command d c (l d refl ∙ sym k) (same (numbers_of d) (numbers_of c) h))
   where
     same : (x y : List ℕ) → ◌≡◌ {A = Result (List ℕ) Refusal} (Ok x) (Ok y) → x ≡ y
     same x y q = cc
 numbers_ok (Err e) c letter l k h = let z : ◌≡◌ {A = ℕ} 0 1 = cc in absurd (omega arith)
 
-lettered_says : (line : List ℕ) (r : Result Command Refusal) (n : ℕ) → length line ≤ 64 → due (get_or line 0 0) ≡ Some n → Way line (get_or line 0 0) (Some n) r → Says line r
+lettered_says : (line : List ℕ) (r : Result Call Refusal) (n : ℕ) → length line ≤ 64 → due (get_or line 0 0) ≡ Some n → Way line (get_or line 0 0) (Some n) r → Says line r
 lettered_says [] r n l d w = absurd (some_none n (due 0) d refl)
 lettered_says (x ∷ xs) r n l d w = record {
   asks = λ c. (told c, asked c);
@@ -135,13 +135,13 @@ lettered_says (x ∷ xs) r n l d w = record {
     lettered (inl h) = let z : ◌≡◌ {A = ℕ} 0 1 = cc in omega arith
     lettered (inr h) = some_none n (due x) d h
 
-    told : (c : Command) → r ≡ Ok c → Asks (x ∷ xs) c
+    told : (c : Call) → r ≡ Ok c → Asks (x ∷ xs) c
     told c h = record {
       begins = record { short = l; first = ap (λ k. k ∷ []) (sym (w.1 c h)); is_due = due_is c };
       stand = read_stand (x ∷ xs) n 1 (numbers_of c) (sym w.0 ∙ ap numbers_in h);
     }
 
-    asked : (c : Command) → Asks (x ∷ xs) c → r ≡ Ok c
+    asked : (c : Call) → Asks (x ∷ xs) c → r ≡ Ok c
     asked c a =
         numbers_ok r c x w.1 (sym (same_first (x ∷ xs) (letter_of c) a.begins.first))
         (w.0 ∙ (ap (numbers (x ∷ xs) 1) (sym (counts (letter_of c) (length (numbers_of c)) a.begins)) ∙ stand_read (x ∷ xs) (numbers_of c) 1 a.stand))

@@ -1,11 +1,11 @@
 -- How each command is typed: a letter, and numbers after it. Assumes nothing.
 use Rattle.std.specs.Prelude.{◌≡◌, ℕ, cond, List, [], ◌∷◌, Some, None, Option, ◌==◌}
 use Rattle.numerals.specs.Numbers.{Numeral}
-use Rattle.typed.specs.declared.command.Command.{Command}
-use Rattle.typed.specs.declared.command.Command.TheVariants.{Withhold, Release, Shut, Open, Thin, Route}
+use Rattle.timetable.specs.declared.call.Call.{Call}
+use Rattle.timetable.specs.declared.call.Call.TheVariants.{Withhold, Release, Shut, Open, Thin, Route}
 
 -- W, R, S, O, T and Q
-abbrev pub letter_of : Command → ℕ
+abbrev pub letter_of : Call → ℕ
 letter_of (Withhold run) = 87
 letter_of (Release run) = 82
 letter_of (Shut quay) = 83
@@ -13,7 +13,7 @@ letter_of (Open quay) = 79
 letter_of Thin = 84
 letter_of (Route q) = 81
 
-abbrev pub numbers_of : Command → List ℕ
+abbrev pub numbers_of : Call → List ℕ
 numbers_of (Withhold run) = run ∷ []
 numbers_of (Release run) = run ∷ []
 numbers_of (Shut quay) = quay ∷ []

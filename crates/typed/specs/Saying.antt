@@ -4,7 +4,7 @@ use Rattle.timetable.specs.declared.refusal.Refusal.{Refusal}
 use Rattle.timetable.specs.declared.refusal.Refusal.TheVariants.{NoLetter, NoNumber, Surplus, LongLine}
 use Rattle.numerals.specs.declared.field.Field.{Field}
 use Rattle.numerals.specs.Numbers.{Numeral}
-use Rattle.typed.specs.declared.command.Command.{Command}
+use Rattle.timetable.specs.declared.call.Call.{Call}
 use Rattle.typed.specs.Forms.{letter_of, numbers_of, due, Stand}
 
 -- a line that is not too long and begins with this letter, after which so many numbers are due
@@ -14,7 +14,7 @@ pub record Begins (line : List ℕ) (letter count : ℕ) : Type 0 where
   pub is_due : due letter ≡ Some count
 
 -- the line is the letter and the numbers of a command, and nothing else
-pub record Asks (line : List ℕ) (c : Command) : Type 0 where
+pub record Asks (line : List ℕ) (c : Call) : Type 0 where
   pub begins : Begins line (letter_of c) (length (numbers_of c))
   pub stand : Stand line 1 (numbers_of c) (length line)
 
@@ -50,8 +50,8 @@ abbrev pub Answers : {X : Type 0} → X → X → Type 0 → Type 0
 Answers r a P = (r ≡ a → P) × (P → r ≡ a)
 
 -- the answer tells what the line says, and else the first thing that is wrong with it
-pub record Says (line : List ℕ) (r : Result Command Refusal) : Type 0 where
-  pub asks : (c : Command) → Answers r (Ok c) (Asks line c)
+pub record Says (line : List ℕ) (r : Result Call Refusal) : Type 0 where
+  pub asks : (c : Call) → Answers r (Ok c) (Asks line c)
   pub long : Answers r (Err LongLine) (64 < length line)
   pub unlettered : Answers r (Err NoLetter) (Unlettered line)
   pub misses : Answers r (Err NoNumber) (Misses line)

@@ -1,7 +1,6 @@
 //! Lines as they are typed and answered: what a typed line asks for, and the bytes of an answer.
 #![tactic(auto)]
 
-pub mod command;
 mod fields;
 mod pen;
 pub mod read;

@@ -4,8 +4,8 @@
 #[cfg(test)]
 mod tests {
     use std::process::Abort;
+    use timetable::call::Call;
     use timetable::query::Query;
-    use typed::command::Command;
     use typed::read::read_command;
     use typed::text::Text;
     use typed::write::write_line;
@@ -13,12 +13,12 @@ mod tests {
     // What a line is read as: its letter and its numbers, or E and the number of its refusal.
     fn read(line: &[u8]) -> (u8, [u16; 4]) {
         match read_command(line) {
-            Ok(Command::Withhold(run)) => (b'W', [run, 0, 0, 0]),
-            Ok(Command::Release(run)) => (b'R', [run, 0, 0, 0]),
-            Ok(Command::Shut(quay)) => (b'S', [quay, 0, 0, 0]),
-            Ok(Command::Open(quay)) => (b'O', [quay, 0, 0, 0]),
-            Ok(Command::Thin) => (b'T', [0; 4]),
-            Ok(Command::Route(query)) => {
+            Ok(Call::Withhold(run)) => (b'W', [run, 0, 0, 0]),
+            Ok(Call::Release(run)) => (b'R', [run, 0, 0, 0]),
+            Ok(Call::Shut(quay)) => (b'S', [quay, 0, 0, 0]),
+            Ok(Call::Open(quay)) => (b'O', [quay, 0, 0, 0]),
+            Ok(Call::Thin) => (b'T', [0; 4]),
+            Ok(Call::Route(query)) => {
                 let Query {
                     from,
                     to,

@@ -2,7 +2,7 @@ use Rattle.std.proofs.Common.{List, take, vec_items, sym, subst, subst₂}
 use Rattle.std.proofs.lemmas.List.{take_more, take_all}
 use Rattle.timetable.specs.Timetables.{Timetable}
 use Rattle.routing.specs.Route.{Lent, lent}
-use Rattle.board.specs.declared.calls.Call.{Call}
+use Rattle.timetable.specs.declared.call.Call.{Call}
 use Rattle.board.specs.declared.calls.Answer.{Answer}
 use Rattle.board.specs.History.{new}
 use Rattle.board.specs.Kept.{Kept}

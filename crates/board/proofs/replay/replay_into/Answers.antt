@@ -1,7 +1,7 @@
 use Rattle.std.proofs.Common.{◌+◌, List, take, drop, sym, ap, ◌∙◌, subst₂, arith, length-set, drop-drop, drop-set-lt}
 use Rattle.std.proofs.lemmas.List.{take_more, take_more_set}
 use Rattle.routing.specs.Route.{Lent, lent}
-use Rattle.board.specs.declared.calls.Call.{Call}
+use Rattle.timetable.specs.declared.call.Call.{Call}
 use Rattle.board.specs.declared.calls.Answer.{Answer}
 use Rattle.board.specs.Boards.{state_of}
 use Rattle.board.proofs.Chains.{Follows, follows_more}
