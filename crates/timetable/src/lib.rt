@@ -5,6 +5,7 @@ pub mod book;
 pub mod call;
 pub mod classes;
 pub mod hiding;
+pub mod limits;
 pub mod query;
 pub mod refusal;
 pub mod sailing;

@@ -1,11 +1,8 @@
 ghost use Rattle.std.specs.Prelude.{◌≡◌};
 ghost use Rattle.timetable.specs.Queries.{query_cause, unless, Judges};
 
+use crate::limits::{LAST_CLASS, LAST_MINUTE};
 use crate::refusal::Refusal;
-
-const LAST_MINUTE: u16 = 1439;
-
-const LAST_CLASS: u16 = 7;
 
 // What is asked of a route: from where, to where, from which minute of the day, with which class of cargo.
 #[derive(Clone, Copy, PartialEq, Debug)]

@@ -2,9 +2,10 @@
 ghost use Rattle.std.specs.Prelude.{◌≡◌, Decides};
 ghost use Rattle.timetable.specs.Times.{length_of, Cycle, next, Next, Departures, continues, Continues};
 
+use crate::limits::MINUTES_OF_DAY;
 use crate::sailing::Sailing;
 
-const DAY: u64 = 1440;
+const DAY: u64 = MINUTES_OF_DAY as u64;
 
 // The three tests of a barge that sails on.
 fn sails_on(s: Sailing, before: Sailing) -> bool
