@@ -8,6 +8,7 @@ use crate::sailing::Sailing;
 const DAY: u64 = MINUTES_OF_DAY as u64;
 
 // The three tests of a barge that sails on.
+#[tactic(auto, unfolding(crate::specs::Times::continues))]
 fn sails_on(s: Sailing, before: Sailing) -> bool
     ensures { result ≡ continues s before }
 {
@@ -16,6 +17,7 @@ fn sails_on(s: Sailing, before: Sailing) -> bool
 
 impl Sailing {
     // The minutes from departure to arrival: less than a day.
+    #[tactic(auto, using(crate::proofs::Laws::length_cycle), unfolding(crate::specs::Times::length_of))]
     pub fn length(self) -> u32
         ensures value { result ≡ length_of self }
         ensures cycle { Cycle self result }
@@ -24,6 +26,7 @@ impl Sailing {
     }
 
     // The first minute, not before the one asked for, at which it leaves on some day. 64 bits hold it for every minute of 32.
+    #[tactic(auto, using(crate::proofs::Laws::next_is, crate::proofs::Laws::departures), unfolding(crate::specs::Times::next))]
     pub fn next_departure(self, minute: u32) -> u64
         ensures value { result ≡ next self minute }
         ensures least { Next self minute result }
@@ -34,6 +37,7 @@ impl Sailing {
     }
 
     // Whether the barge that sailed `before` sails on as this sailing, so that its load can stay aboard.
+    #[tactic(auto, using(crate::proofs::Laws::continues_means))]
     pub fn continues(self, before: Sailing) -> bool
         ensures value { result ≡ continues self before }
         ensures means { Decides result (Continues self before) }
