@@ -23,25 +23,20 @@ pub struct Leg {
 
 impl Query {
     // Whether it can be asked of a book with this many quays. Of several faults the one with the lowest number is told.
+    #[tactic(auto, using(crate::proofs::Queried::judges))]
     pub fn check(self, quays: u16) -> Result<(), Refusal>
         ensures value { result ≡ unless (query_cause self quays) tt }
         ensures lowest { Judges self quays result }
     {
-        checked(self, quays)
+        if self.from >= quays || self.to >= quays {
+            return Err(Refusal::NoQuay);
+        }
+        if self.minute > LAST_MINUTE {
+            return Err(Refusal::LateMinute);
+        }
+        if self.class > LAST_CLASS {
+            return Err(Refusal::NoClass);
+        }
+        Ok(())
     }
-}
-
-fn checked(query: Query, quays: u16) -> Result<(), Refusal>
-    ensures { result ≡ unless (query_cause query quays) tt }
-{
-    if query.from >= quays || query.to >= quays {
-        return Err(Refusal::NoQuay);
-    }
-    if query.minute > LAST_MINUTE {
-        return Err(Refusal::LateMinute);
-    }
-    if query.class > LAST_CLASS {
-        return Err(Refusal::NoClass);
-    }
-    Ok(())
 }
