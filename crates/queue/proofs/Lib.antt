@@ -1,3 +1,2 @@
 pub mod Finds
-pub mod Kept
 pub mod Lawful

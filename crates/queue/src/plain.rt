@@ -6,19 +6,17 @@ ghost use Rattle.queue.specs.Tables.{size_for, waiting, table_few};
 
 use crate::line::Line;
 use crate::table::Table;
+use arrayvec::ArrayVec;
 use timetable::refusal::Refusal;
-
-const MOST_ITEMS: u16 = 3072;
 
 impl Table {
     // A table of this many items, none of which waits. It has 3,072 where more are asked for.
     pub fn new(size: u16) -> Table
         ensures { waiting result ≡ idle (size_for size) }
     {
-        Table {
-            keys: [None; 3072],
-            size: size_for(size),
-        }
+        let mut keys = ArrayVec::from([None; 3072]);
+        keys.truncate(usize::from(size));
+        Table { keys }
     }
 }
 
@@ -28,35 +26,26 @@ impl Line for Table {
     ghost few = { table_few };
 
     fn size(&self) -> u16 {
-        self.size
+        self.keys.len() as u16
     }
 
     fn set(&mut self, item: u16, key: u32) -> Result<(), Refusal> {
-        if item >= self.size {
+        if item >= self.size() {
             return Err(Refusal::NoItem);
         }
-        self.keys[item as usize] = Some(key);
+        self.keys[usize::from(item)] = Some(key);
         Ok(())
     }
 
     fn take(&mut self) -> Option<(u16, u32)> {
-        let Some((item, key)) = first(&self.keys[0..self.size as usize]) else {
-            return None;
-        };
-        self.keys[item as usize] = None;
+        let (item, key) = first(&self.keys)?;
+        self.keys[usize::from(item)] = None;
         Some((item, key))
     }
 
     fn clear(&mut self) {
-        self.keys = [None; 3072];
+        self.keys.fill(None);
     }
-}
-
-// How many items a table has where this many are asked for.
-fn size_for(size: u16) -> u16
-    ensures { result ≡ size_for size }
-{
-    if size < MOST_ITEMS { size } else { MOST_ITEMS }
 }
 
 // The better of what was best before and an item after it: among equals the one before.
@@ -64,8 +53,8 @@ fn better(best: Option<(u16, u32)>, item: u16, key: u32) -> Option<(u16, u32)>
     ensures { result ≡ better_of best item key }
 {
     match best {
-        Some((_, least)) => { if key < least { Some((item, key)) } else { best } }
-        None => Some((item, key)),
+        Some((_, least)) if least <= key => best,
+        _ => Some((item, key)),
     }
 }
 
@@ -74,10 +63,10 @@ fn first(keys: &[Option<u32>]) -> Option<(u16, u32)>
     requires { length keys.now ≤ most_items }
     ensures { FirstOf keys.now result }
 {
-    let mut best: Option<(u16, u32)> = None;
-    for i in 0..keys.len() {
-        if let Some(key) = keys[i] {
-            best = better(best, i as u16, key);
+    let mut best = None;
+    for (item, key) in keys.iter().enumerate() {
+        if let Some(key) = *key {
+            best = better(best, item as u16, key);
         }
     }
     best

@@ -1,5 +1,5 @@
 use Rattle.queue.specs.Firsts.{BestBelow}
 use Rattle.queue.proofs.plain.first.Given as goal
 
-abbrev pub invariant-loop-i : goal.invariant-loop-i
-invariant-loop-i l = BestBelow l.keys l.i l.best
+abbrev pub invariant-loop-item : goal.invariant-loop-item
+invariant-loop-item l = BestBelow l.keys l.item l.best

@@ -1,9 +1,12 @@
-use Rattle.std.proofs.Common.{◌≡◌, ◌≤◌, take, sym, refl, ◌∙◌, subst, arith}
-use Rattle.queue.specs.Lines.{most_items}
-use Rattle.queue.proofs.Kept.{idle_rows}
+use Rattle.std.proofs.Common.{◌≡◌, ℕ, ◌≤◌, take, None, sym, refl, ap, ◌∙◌, subst, arith}
+use Rattle.queue.specs.Lines.{most_items, idle}
+use Rattle.std.proofs.lemmas.List.{take-replicate}
 use Rattle.heapline.specs.Tallies.{times_of, key_of}
 use Rattle.heapline.proofs.Turns as turns
 use Rattle.heapline.proofs.line.HeapLine.new.Goals as goal
+
+idle_rows : (n m : ℕ) → n ≤ most_items → m ≡ n → take n (idle most_items) ≡ idle m
+idle_rows n m h e = take-replicate n most_items None h ∙ ap idle (sym e)
 
 pub invariant_of-result : goal.invariant_of-result
 invariant_of-result c =
