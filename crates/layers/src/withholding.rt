@@ -1,105 +1,74 @@
 //! A book in which the sailings of withheld runs are blank.
 ghost use Rattle.std.specs.Prelude.{◌≡◌, List, [], ◌∷◌, ◌++◌, length, is_ok, if◌then◌else◌};
-ghost use Rattle.timetable.specs.Timetables.{Timetable, Lawful};
-ghost use Rattle.timetable.specs.Hiding.{hide};
-ghost use Rattle.timetable.proofs.HidingLemmas.{hide_lawful};
 ghost use Rattle.tables.specs.Lists.{has, without};
 ghost use Rattle.tables.specs.Kept.{kept};
 ghost use Rattle.layers.specs.Notices.{withhold_answer, release_answer, of_withheld};
 
+use crate::layer::{Layer, Rule};
 use tables::numbers::Numbers;
 use timetable::book::Book;
 use timetable::refusal::Refusal;
 use timetable::sailing::Sailing;
-use timetable::span::Span;
 
 const MOST_RUNS: usize = 64;
 
+// The runs that are withheld.
 #[derive(Drop)]
-pub struct Withholding<B> {
-    pub below: B,
+pub struct Runs {
     runs: Numbers<MOST_RUNS>,
 }
 
-impl<B: Book> Withholding<B> {
+impl Rule for Runs {
+    ghost picks = { λ r. of_withheld (kept r.runs) };
+
+    fn hides(&self, _place: u16, s: Sailing) -> bool {
+        self.runs.holds(s.run)
+    }
+}
+
+pub type Withholding<B> = Layer<B, Runs>;
+
+impl<B: Book> Layer<B, Runs> {
     pub fn new(below: B) -> Self
         ensures below { result.below ≡ below }
-        ensures none { kept result.runs ≡ [] }
+        ensures none { kept result.rule.runs ≡ [] }
     {
-        Withholding {
+        Layer {
             below,
-            runs: Numbers::new(),
+            rule: Runs {
+                runs: Numbers::new(),
+            },
         }
     }
 
     // Takes the sailings of a run out of force.
     pub fn withhold(&mut self, run: u16) -> Result<(), Refusal>
-        ensures answer { result ≡ withhold_answer (has run (kept self.old.runs)) (length (kept self.old.runs)) }
-        ensures after { kept self.new.runs ≡ (if is_ok result then kept self.old.runs ++ (run ∷ []) else kept self.old.runs) }
+        ensures answer { result ≡ withhold_answer (has run (kept self.old.rule.runs)) (length (kept self.old.rule.runs)) }
+        ensures after { kept self.new.rule.runs ≡ (if is_ok result then kept self.old.rule.runs ++ (run ∷ []) else kept self.old.rule.runs) }
         ensures below { self.new.below ≡ self.old.below }
     {
         if self.is_withheld(run) {
             return Err(Refusal::RunWithheld);
         }
-        if self.runs.push(run) {
-            Ok(())
-        } else {
-            Err(Refusal::RunsFull)
-        }
+        self.rule.runs.push(run).map_err(|_| Refusal::RunsFull)
     }
 
     // Puts them into force again.
     pub fn release(&mut self, run: u16) -> Result<(), Refusal>
-        ensures answer { result ≡ release_answer (has run (kept self.old.runs)) }
-        ensures after { kept self.new.runs ≡ (if is_ok result then without run (kept self.old.runs) else kept self.old.runs) }
+        ensures answer { result ≡ release_answer (has run (kept self.old.rule.runs)) }
+        ensures after { kept self.new.rule.runs ≡ (if is_ok result then without run (kept self.old.rule.runs) else kept self.old.rule.runs) }
         ensures below { self.new.below ≡ self.old.below }
     {
         if !self.is_withheld(run) {
             return Err(Refusal::RunNotWithheld);
         }
-        self.runs.remove(run);
+        self.rule.runs.remove(run);
         Ok(())
     }
 
     pub fn is_withheld(&self, run: u16) -> bool
-        ensures { result ≡ has run (kept self.now.runs) }
+        ensures { result ≡ has run (kept self.now.rule.runs) }
     {
-        self.runs.holds(run)
-    }
-}
-
-impl<B: Book> Book for Withholding<B> {
-    ghost meaning = { λ w. hide (of_withheld (kept w.runs)) (B.Book.meaning w.below) };
-
-    ghost lawful = { λ w. hide_lawful (of_withheld (kept w.runs)) (B.Book.meaning w.below) (B.Book.lawful w.below) };
-
-    fn quays(&self) -> u16 {
-        self.below.quays()
-    }
-
-    fn places(&self) -> u16 {
-        self.below.places()
-    }
-
-    fn change(&self, quay: u16) -> Result<u16, Refusal> {
-        self.below.change(quay)
-    }
-
-    fn place(&self, place: u16) -> Result<Option<Sailing>, Refusal> {
-        match self.below.place(place) {
-            Ok(Some(s)) => {
-                if self.is_withheld(s.run) {
-                    Ok(None)
-                } else {
-                    Ok(Some(s))
-                }
-            }
-            Ok(None) => Ok(None),
-            Err(e) => Err(e),
-        }
-    }
-
-    fn span(&self, quay: u16) -> Result<Span, Refusal> {
-        self.below.span(quay)
+        self.rule.runs.holds(run)
     }
 }

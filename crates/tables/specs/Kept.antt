@@ -1,7 +1,7 @@
 -- What a table of numbers keeps. Assumes nothing.
-use Rattle.std.specs.Prelude.{ℕ, List, take}
+use Rattle.std.specs.Prelude.{ℕ, List}
 use Rattle.tables.specs.declared.numbers.Numbers.{Numbers}
 
--- the first numbers of its array, as many as it counts
+-- its numbers, in the order in which they were accepted
 abbrev pub kept : {n : ℕ} → Numbers n → List ℕ
-kept r = take r.count r.at
+kept r = r.at.items

@@ -33,7 +33,7 @@ impl Marks {
     pub fn mark(&mut self, place: u16)
         ensures { self.new.at ≡ slice_set self.old.at place true }
     {
-        if place < 3072 {
+        if (place as usize) < self.at.len() {
             self.at[place as usize] = true;
         }
     }
@@ -41,9 +41,6 @@ impl Marks {
     pub fn holds(&self, place: u16) -> bool
         ensures { result ≡ slice_index_or self.now.at place false }
     {
-        if place >= 3072 {
-            return false;
-        }
-        self.at[place as usize]
+        self.at.get(place as usize).copied().unwrap_or(false)
     }
 }

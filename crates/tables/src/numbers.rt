@@ -1,12 +1,12 @@
 //! A table of at most N numbers, in the order in which they were accepted.
-ghost use Rattle.std.specs.Prelude.{◌≡◌, ◌≤◌, length};
+ghost use Rattle.std.specs.Prelude.{◌≤◌, length};
+
+use arrayvec::ArrayVec;
 
 pub mod methods;
 
 #[derive(Drop)]
 pub struct Numbers<const N: usize> {
-    at: [u16; N],
-    count: usize,
-    ghost wide: { length at ≡ N },
-    ghost few: { count ≤ N },
+    at: ArrayVec<u16, N>,
+    ghost few: { length at.items ≤ N },
 }
