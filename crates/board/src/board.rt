@@ -43,7 +43,7 @@ impl<B: Book> Board<B> {
         ensures law { CarriesOn (state_of B.meaning self.old) (Withhold run) (Notice result) (state_of B.meaning self.new) }
     {
         let withheld = self.thinned.below.below.withhold(run);
-        self.thinned.marks.after_notice(withheld.is_ok());
+        self.thinned.rule.after_notice(withheld.is_ok());
         withheld
     }
 
@@ -54,7 +54,7 @@ impl<B: Book> Board<B> {
         ensures law { CarriesOn (state_of B.meaning self.old) (Release run) (Notice result) (state_of B.meaning self.new) }
     {
         let released = self.thinned.below.below.release(run);
-        self.thinned.marks.after_notice(released.is_ok());
+        self.thinned.rule.after_notice(released.is_ok());
         released
     }
 
@@ -65,7 +65,7 @@ impl<B: Book> Board<B> {
         ensures law { CarriesOn (state_of B.meaning self.old) (Shut quay) (Notice result) (state_of B.meaning self.new) }
     {
         let closed = self.thinned.below.shut(quay);
-        self.thinned.marks.after_notice(closed.is_ok());
+        self.thinned.rule.after_notice(closed.is_ok());
         closed
     }
 
@@ -76,7 +76,7 @@ impl<B: Book> Board<B> {
         ensures law { CarriesOn (state_of B.meaning self.old) (Open quay) (Notice result) (state_of B.meaning self.new) }
     {
         let reopened = self.thinned.below.open(quay);
-        self.thinned.marks.after_notice(reopened.is_ok());
+        self.thinned.rule.after_notice(reopened.is_ok());
         reopened
     }
 

@@ -11,7 +11,7 @@ mod rows;
 
 // Runs stay in the order in which they were accepted, and a released one leaves no gap.
 fn keeps_order<B: Book>(below: B) -> Withholding<B>
-    ensures { kept result.runs ≡ 7 ∷ 6 ∷ 9 ∷ [] }
+    ensures { kept result.rule.runs ≡ 7 ∷ 6 ∷ 9 ∷ [] }
 {
     let mut book = Withholding::new(below);
     let _ = book.withhold(7);
@@ -89,7 +89,7 @@ mod tests {
         let count = book.thin();
         let after = shown(&book);
         let again = book.thin();
-        book.marks.erase();
+        book.rule.erase();
         assert_eq!(rt;
             [before, after, shown(&book)],
             [0b111111, 0b111101, 0b111111]

@@ -7,5 +7,5 @@ use Rattle.board.proofs.board.Board.in_force.Goals as goal
 pub returns : goal.returns
 returns g c =
     let b = c.args.self.now.thinned.below in
-    let stands = hide_twice (touches_shut (kept b.quays)) (of_withheld (kept b.below.runs)) (g.B.Book.meaning b.below.below) in
+    let stands = hide_twice (touches_shut (kept b.rule.quays)) (of_withheld (kept b.below.rule.runs)) (g.B.Book.meaning b.below.below) in
     record { book = refl; law = record { stands = stands; in_force = λ t h k. stands ∙ k.in_force } }

@@ -1,7 +1,7 @@
 use Rattle.std.proofs.Common.{ap}
 use Rattle.tables.specs.Lists.{without}
 use Rattle.tables.specs.Kept.{kept}
-use Rattle.layers.specs.declared.withholding.Withholding.{Withholding}
+use Rattle.layers.specs.Layers.{Withholding}
 use Rattle.board.specs.States.{on_open}
 use Rattle.board.specs.Boards.{state_of}
 use Rattle.board.proofs.Noted.{quays_noted}
@@ -14,5 +14,5 @@ returns g c =
     let done = c.open-reopened.ensures in
     let after = quays_noted s _ (on_open s c.args.quay) c.open-reopened.result _ done.answer c.is_ok.ensures.value
     (ap (λ (w : Withholding g.row.B.Denot). g.B.Book.meaning w.below) done.below) c.after_notice.ensures
-    (without c.args.quay s.quays) done.after (ap (λ (w : Withholding g.row.B.Denot). kept w.runs) done.below) in
+    (without c.args.quay s.quays) done.after (ap (λ (w : Withholding g.row.B.Denot). kept w.rule.runs) done.below) in
     record { answer = done.answer; after = after; law = open_carries s _ c.open-reopened.result c.args.quay done.answer after }

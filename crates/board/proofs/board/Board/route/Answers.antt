@@ -22,5 +22,5 @@ returns g c =
     let r = c.route.result in
     let told : Routed (shown s) q given left r =
     subst (λ (x : Timetable). Routed (hide (marked s.marks) x) q given left r)
-    (hide_twice (touches_shut (kept b.quays)) (of_withheld (kept b.below.runs)) (g.B.Book.meaning b.below.below)) c.route.ensures in
+    (hide_twice (touches_shut (kept b.rule.quays)) (of_withheld (kept b.below.rule.runs)) (g.B.Book.meaning b.below.below)) c.route.ensures in
     record { shown = told; law = route_carries s q r given left (in_force s q given left r told) (record { labels = c.route.auto.labels; legs = c.route.auto.legs }) }

@@ -1,6 +1,6 @@
 use Rattle.std.proofs.Common.{[], ◌∷◌, ◌++◌, ap}
 use Rattle.tables.specs.Kept.{kept}
-use Rattle.layers.specs.declared.withholding.Withholding.{Withholding}
+use Rattle.layers.specs.Layers.{Withholding}
 use Rattle.board.specs.States.{on_shut}
 use Rattle.board.specs.Boards.{state_of}
 use Rattle.board.proofs.Noted.{quays_noted}
@@ -13,5 +13,5 @@ returns g c =
     let done = c.shut-closed.ensures in
     let after = quays_noted s _ (on_shut s c.args.quay) c.shut-closed.result _ done.answer c.is_ok.ensures.value
     (ap (λ (w : Withholding g.row.B.Denot). g.B.Book.meaning w.below) done.below) c.after_notice.ensures
-    (s.quays ++ (c.args.quay ∷ [])) done.after (ap (λ (w : Withholding g.row.B.Denot). kept w.runs) done.below) in
+    (s.quays ++ (c.args.quay ∷ [])) done.after (ap (λ (w : Withholding g.row.B.Denot). kept w.rule.runs) done.below) in
     record { answer = done.answer; after = after; law = shut_carries s _ c.shut-closed.result c.args.quay done.answer after }
