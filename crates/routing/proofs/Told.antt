@@ -1,13 +1,13 @@
 -- What the search tells. Assumes nothing.
-use Rattle.std.proofs.Common.{◌≡◌, ℕ, ◌<◌, ◌≤◌, Bool, true, false, cond, ltb, leb, List, length, drop, Some, None, Ok, Err, Option, sym, refl, ap, ◌∙◌, arith}
+use Rattle.std.proofs.Common.{◌≡◌, ℕ, ◌<◌, ◌≤◌, Bool, true, false, cond, ltb, leb, List, length, drop, Some, None, Option, Result, sym, refl, ap, ◌∙◌, arith}
+use Rattle.std.specs.Result.{result_unwrap_or}
+use Rattle.std.proofs.lemmas.Grind.{common_steps}
 use Rattle.std.proofs.lemmas.Bool.{ltb-true, leb-true}
 use Rattle.timetable.specs.declared.query.Query.{Query}
 use Rattle.timetable.specs.declared.query.Leg.{Leg}
 use Rattle.timetable.specs.declared.refusal.Refusal.{Refusal}
-use Rattle.timetable.specs.declared.refusal.Refusal.TheVariants.{NoClass}
 use Rattle.timetable.specs.Classes.{figures, class_minutes, minutes_for}
 use Rattle.timetable.specs.Timetables.{Timetable}
-use Rattle.timetable.proofs.Told.{asked_ok, asked_default}
 use Rattle.journey.specs.Journeys.{start}
 use Rattle.journey.proofs.Follows.{leads_forward}
 use Rattle.routing.specs.declared.ride.Ride.{Ride}
@@ -91,11 +91,7 @@ accepted T q labels legs ks a b e ea eb ee h =
     ∙ ap (λ x. cause_of q a b labels legs x) (sym ee) ∙ sym h in
     (none, fine q (length T.changes) (length T.places) labels legs (length ks) none)
 
--- the minutes that a class was told to add, and those of a class that there is not
-pub class_told : (c m : ℕ) → Ok m ≡ minutes_for c → m ≡ class_minutes c
+-- the minutes that a class adds, and none where it is told that there is no such class
+pub class_read : (c : ℕ) (r : Result ℕ Refusal) (m : ℕ) → r ≡ minutes_for c → m ≡ result_unwrap_or r 0 → m ≡ class_minutes c
 unfolding class_minutes
-class_told c m h = (asked_ok figures c 0 m NoClass h).1
-
-pub class_absent : (c : ℕ) (e : Refusal) → Err e ≡ minutes_for c → 0 ≡ class_minutes c
-unfolding class_minutes
-class_absent c e h = asked_default figures c 0 NoClass e h
+class_read c r m e h = grind (arith, common_steps)

@@ -1,6 +1,5 @@
 //! Settling one place after another, the earliest arrival first, until the goal is reached.
 ghost use Rattle.std.specs.Prelude.{◌≡◌, ℕ, ◌+◌, ◌<◌, ◌≤◌, length};
-ghost use Rattle.timetable.specs.Timetables.{change_at};
 ghost use Rattle.routing.specs.declared.ride.Origin.TheVariants.{Via};
 ghost use Rattle.routing.specs.Labels.{view, Linked};
 ghost use Rattle.routing.specs.Relaxing.{Ready, Through, Opened};
@@ -28,21 +27,10 @@ fn settle_first<L: Line>(line: &mut L, labels: &mut [Label]) -> Option<(u16, Rid
     requires { Linked (view labels.old) (L.keys line.old) }
     ensures { SettledFirst (view labels.old) result (view labels.new) (L.keys line.new) }
 {
-    let Some((place, _)) = line.take() else {
-        return None;
-    };
+    let (place, _) = line.take()?;
     let ride = ride_in(labels[place as usize]);
     labels[place as usize].state = State::Settled;
     Some((place, ride))
-}
-
-fn change_at<B: Book>(book: &B, quay: u16) -> u16
-    ensures { result ≡ change_at (B.meaning book.now) quay }
-{
-    match book.change(quay) {
-        Ok(minutes) => minutes,
-        Err(_) => 0,
-    }
 }
 
 // Goes on from a settled place: opens its quay, or follows its barge alone where the quay is open already.
@@ -92,7 +80,7 @@ fn take_turn<B: Book, L: Line>(
     if ride.sailing.to == trip.to {
         return Turn::Arrived(place, ride);
     }
-    let change = u32::from(change_at(book, ride.sailing.to)) + trip.extra;
+    let change = u32::from(book.change_at(ride.sailing.to)) + trip.extra;
     go_on(book, line, labels, spans, trip, place, ride, change);
     Turn::Onward
 }

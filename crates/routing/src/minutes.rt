@@ -12,7 +12,7 @@ fn before(first: u16, second: u16) -> u32
     ensures yes { result ≡ 1 → first < second }
     ensures other { result ≡ 0 → second ≤ first }
 {
-    if first < second { 1 } else { 0 }
+    u32::from(first < second)
 }
 
 // The minutes from departure to arrival.
@@ -20,7 +20,7 @@ pub(crate) fn minutes_of(s: Sailing) -> u32
     requires { (s.dep < day) × (s.arr < day) }
     ensures { result ≡ length_of s }
 {
-    s.arr as u32 + DAY * before(s.arr, s.dep) - s.dep as u32
+    u32::from(s.arr) + DAY * before(s.arr, s.dep) - u32::from(s.dep)
 }
 
 // The next departure at or after the minute.
@@ -29,5 +29,5 @@ pub(crate) fn next_leave(s: Sailing, minute: u32) -> u32
     ensures { result ≡ next s minute }
 {
     let of_day = (minute % DAY) as u16;
-    minute + (s.dep as u32 + DAY * before(s.dep, of_day) - of_day as u32)
+    minute + (u32::from(s.dep) + DAY * before(s.dep, of_day) - u32::from(of_day))
 }

@@ -1,6 +1,5 @@
 //! Relaxing: every place that can be boarded from an origin gets its label.
 ghost use Rattle.std.specs.Prelude.{◌≡◌, ℕ, ◌+◌, ◌<◌, ◌≤◌, length, slice_set};
-ghost use Rattle.timetable.specs.Timetables.{place_at};
 ghost use Rattle.routing.specs.Labels.{status_of, view, look, gains, reach, Linked};
 ghost use Rattle.routing.specs.Origins.{minute_of};
 ghost use Rattle.routing.specs.Relaxing.{Ready, Through, Opened};
@@ -10,7 +9,6 @@ use crate::ride::{Origin, Ride, quay_of, ride_from, waiting_label};
 use crate::trip::Trip;
 use queue::line::Line;
 use timetable::book::Book;
-use timetable::sailing::Sailing;
 use timetable::span::Span;
 
 // Whether the ride is better than what the label tells.
@@ -37,16 +35,6 @@ fn relax_place<L: Line>(line: &mut L, labels: &mut [Label], place: u16, ride: Ri
     }
 }
 
-// The sailing at a place of the book, if any.
-fn sailing_at<B: Book>(book: &B, place: u16) -> Option<Sailing>
-    ensures { result ≡ place_at (B.meaning book.now) place }
-{
-    match book.place(place) {
-        Ok(content) => content,
-        Err(_) => None,
-    }
-}
-
 // Relaxes one place, if its sailing leaves the quay of the origin.
 fn relax<B: Book, L: Line>(
     book: &B,
@@ -59,7 +47,7 @@ fn relax<B: Book, L: Line>(
     requires { Ready (B.meaning book.now) trip origin (view labels.old) (L.keys line.old) }
     ensures { Through (B.meaning book.now) trip origin (view labels.old) (view labels.new) (L.keys line.new) place (place + 1) }
 {
-    if let Some(s) = sailing_at(book, place) {
+    if let Some(s) = book.sailing_at(place) {
         if s.from == quay_of(origin) {
             relax_place(line, labels, place, ride_from(origin, s));
         }

@@ -10,7 +10,7 @@ use crate::explore::explore;
 use crate::found::Found;
 use crate::label::Label;
 use crate::legs::write_legs;
-use crate::trip::trip_of;
+use crate::trip::Trip;
 use queue::line::Line;
 use timetable::book::Book;
 use timetable::query::{Leg, Query};
@@ -64,12 +64,10 @@ fn find<B: Book, L: Line>(
     requires room { length (B.meaning book.now).places ≤ length legs.old }
     ensures { Tells (B.meaning book.now) query legs.old legs.new result }
 {
-    let trip = trip_of(query);
+    let trip = Trip::from(query);
     let mut spans: [Option<Span>; MOST_QUAYS] = [None; MOST_QUAYS];
     prepare(book, line, labels, &mut spans, trip);
-    let Some((last, ride)) = explore(book, line, labels, &mut spans, trip) else {
-        return None;
-    };
+    let (last, ride) = explore(book, line, labels, &mut spans, trip)?;
     write_legs(labels, legs, last, ride);
     Some(Found {
         arrival: ride.arrives,

@@ -1,6 +1,5 @@
 //! Trips: queries as they are looked for.
 ghost use Rattle.std.specs.Prelude.{◌≡◌};
-ghost use Rattle.timetable.specs.Classes.{class_minutes};
 ghost use Rattle.routing.specs.Trips.{trip_of};
 
 use timetable::classes::class_minutes;
@@ -15,23 +14,16 @@ pub struct Trip {
     pub extra: u32,
 }
 
-// The minutes of a class: none for a class that there is not.
-fn extra_of(class: u16) -> u16
-    ensures { result ≡ class_minutes class }
-{
-    match class_minutes(class) {
-        Ok(minutes) => minutes,
-        Err(_) => 0,
-    }
-}
-
-pub(crate) fn trip_of(query: Query) -> Trip
-    ensures { result ≡ trip_of query }
-{
-    Trip {
-        from: query.from,
-        to: query.to,
-        minute: u32::from(query.minute),
-        extra: u32::from(extra_of(query.class)),
+// A class that there is not adds no minutes.
+impl From<Query> for Trip {
+    fn from(query: Query) -> Trip
+        ensures { result ≡ trip_of query }
+    {
+        Trip {
+            from: query.from,
+            to: query.to,
+            minute: u32::from(query.minute),
+            extra: u32::from(class_minutes(query.class).unwrap_or(0)),
+        }
     }
 }

@@ -8,7 +8,7 @@ use Rattle.routing.proofs.route.find.Goals as goal
 
 pub prepare-requires : goal.prepare-requires
 prepare-requires g c = record {
-  asked = subst (λ w. Asked (g.B.Book.meaning c.args.book.now) w (view c.args.labels.now) (g.L.Line.keys c.args.line.now)) (sym c.trip_of-trip.ensures) c.requires.asked;
+  asked = subst (λ w. Asked (g.B.Book.meaning c.args.book.now) w (view c.args.labels.now) (g.L.Line.keys c.args.line.now)) (sym c.from-trip.ensures) c.requires.asked;
   many = omega arith;
   closed = all_closed 256;
 }
@@ -16,19 +16,18 @@ prepare-requires g c = record {
 pub write_legs-requires : goal.write_legs-requires
 write_legs-requires g c =
     let T = g.B.Book.meaning c.args.book.now in
-    let arrival = c.in-Some.ensures in
+    let arrival = c.in_ok-last.ensures in
     record {
-      known = (T, c.trip_of-trip.result, arrival);
-      room = omega (arith, arrival_depth T c.trip_of-trip.result (view c.explore.new.labels) c.in-Some.last c.in-Some.ride arrival, c.requires.room);
+      known = (T, c.from-trip.result, arrival);
+      room = omega (arith, arrival_depth T c.from-trip.result (view c.explore.new.labels) c.in_ok-last.last c.in_ok-last.ride arrival, c.requires.room);
     }
 
-pub returns-in_default : goal.returns-in_default
-returns-in_default g c =
-    (subst (λ w. Unmade (g.B.Book.meaning c.args.book.now) w) c.trip_of-trip.ensures c.in_default.ensures, refl)
+pub returns-in_err-last : goal.returns-in_err-last
+returns-in_err-last g c = rw c.from_residual.ensures (subst (λ w. Unmade (g.B.Book.meaning c.args.book.now) w) c.from-trip.ensures c.in_err-last.ensures, refl)
 
 pub returns : goal.returns
 returns g c =
     let T = g.B.Book.meaning c.args.book.now in
-    let arrival = subst (λ w. Arrival T w (view c.explore.new.labels) c.in-Some.last c.in-Some.ride) c.trip_of-trip.ensures c.in-Some.ensures in
-    best T c.args.query (view c.explore.new.labels) c.in-Some.last c.in-Some.ride arrival _ _
+    let arrival = subst (λ w. Arrival T w (view c.explore.new.labels) c.in_ok-last.last c.in_ok-last.ride) c.from-trip.ensures c.in_ok-last.ensures in
+    best T c.args.query (view c.explore.new.labels) c.in_ok-last.last c.in_ok-last.ride arrival _ _
     (c.write_legs.ensures.written T (trip_of c.args.query) arrival) c.write_legs.ensures.rest
