@@ -1,6 +1,8 @@
 -- The steps of the walk along a plan. Assumes nothing.
-use Rattle.std.proofs.Common.{◌≡◌, ℕ, ◌+◌, ◌<◌, ◌≤◌, eqb, List, length, get_or, drop, Ok, Err, sym, refl, ap, ◌∙◌, arith}
+use Rattle.std.proofs.Common.{◌≡◌, ℕ, ◌+◌, ◌<◌, ◌≤◌, eqb, List, length, get_or, drop, Ok, Err, Result, sym, refl, ap, ◌∙◌, arith}
 use Rattle.std.proofs.lemmas.List.{drop_more, drop_all}
+use Rattle.std.specs.Result.{result_unwrap_or}
+use Rattle.std.proofs.lemmas.Grind.{common_steps}
 use Rattle.std.proofs.lemmas.Bool.{cond-true, cond-false, eq-eqb, ne_eqb}
 use Rattle.timetable.specs.declared.sailing.Sailing.{Sailing}
 use Rattle.timetable.specs.declared.query.Leg.{Leg}
@@ -9,20 +11,15 @@ use Rattle.timetable.specs.declared.refusal.Refusal.{Refusal}
 use Rattle.timetable.specs.declared.refusal.Refusal.TheVariants.{NoClass, EndsElsewhere}
 use Rattle.timetable.specs.Classes.{figures, class_minutes, minutes_for}
 use Rattle.timetable.specs.Timetables.{Timetable}
-use Rattle.timetable.proofs.Told.{asked_ok, asked_default}
 use Rattle.journey.specs.Journeys.{Stand, start, after}
 use Rattle.vet.specs.declared.verdict.Verdict.{Verdict}
 use Rattle.vet.specs.declared.verdict.Verdict.TheVariants.{Holds, Fails}
 use Rattle.vet.specs.Vetting.{judged, later, onward, verdict_from, verdict_on}
 
--- the minutes that a class was told to add, and those of a class that there is not
-pub class_told : (c m : ℕ) → Ok m ≡ minutes_for c → m ≡ class_minutes c
+-- the minutes that a class adds, and none where it is told that there is no such class
+pub class_read : (c : ℕ) (r : Result ℕ Refusal) (m : ℕ) → r ≡ minutes_for c → m ≡ result_unwrap_or r 0 → m ≡ class_minutes c
 unfolding class_minutes
-class_told c m h = (asked_ok figures c 0 m NoClass h).1
-
-pub class_absent : (c : ℕ) (e : Refusal) → Err e ≡ minutes_for c → 0 ≡ class_minutes c
-unfolding class_minutes
-class_absent c e h = asked_default figures c 0 NoClass e h
+class_read c r m e h = grind (arith, common_steps)
 
 later_none : (v : Verdict) → later 0 v ≡ v
 later_none (Holds a) = refl

@@ -3,10 +3,10 @@ ghost use Rattle.std.specs.Prelude.{◌≡◌, length};
 ghost use Rattle.vet.specs.Vetting.{cause_of, verdict_on, vetted};
 ghost use Rattle.vet.specs.Verdicts.{Vetted};
 
-use crate::judge::judge;
-use crate::stand::{after_leg, at_start, extra_of};
+use crate::standing::Standing;
 use crate::verdict::Verdict;
 use timetable::book::Book;
+use timetable::classes::class_minutes;
 use timetable::query::{Leg, Query};
 use timetable::refusal::Refusal;
 
@@ -34,12 +34,12 @@ fn cause(query: Query, quays: u16) -> Option<Refusal>
 fn walk<B: Book>(book: &B, query: Query, plan: &[Leg]) -> Verdict
     ensures { result ≡ verdict_on (B.meaning book.now) query plan.now }
 {
-    let extra = extra_of(query.class);
-    let mut here = at_start(query);
-    for k in 0..plan.len() {
-        let leg = plan[k];
-        match judge(book, here, leg) {
-            Ok(s) => here = after_leg(book, s, leg.arrives, extra),
+    // a query that may be asked has a class
+    let extra = class_minutes(query.class).unwrap_or(0);
+    let mut here = Standing::at_start(query);
+    for (k, leg) in plan.iter().enumerate() {
+        match here.judge(book, *leg) {
+            Ok(s) => here = Standing::after_leg(book, s, leg.arrives, extra),
             Err(refusal) => return Verdict::Fails { leg: k, refusal },
         }
     }
