@@ -1,30 +1,33 @@
 -- What a route tells. Assumes nothing.
-use Rattle.std.specs.Prelude.{◌≡◌, ℕ, ◌≤◌, cond, List, length, take, drop, Some, None, Ok, Err, Option, Result, nat_le, nat_lt}
+use Rattle.std.specs.Prelude.{◌≡◌, ℕ, ◌≤◌, cond, List, length, take, drop, Some, None, Ok, Err, Option, Result, nat_le}
 use Rattle.timetable.specs.declared.query.Query.{Query}
 use Rattle.timetable.specs.declared.query.Leg.{Leg}
 use Rattle.timetable.specs.declared.refusal.Refusal.{Refusal}
-use Rattle.timetable.specs.declared.refusal.Refusal.TheVariants.{NoQuay, LateMinute, NoClass, ShortBuffer, SmallLine}
-use Rattle.timetable.specs.Classes.{figures}
+use Rattle.timetable.specs.declared.refusal.Refusal.TheVariants.{ShortBuffer, SmallLine}
+use Rattle.timetable.specs.Queries.{query_cause}
 use Rattle.timetable.specs.Timetables.{Timetable}
 use Rattle.journey.specs.Journeys.{Journey, Earliest, NoJourney, Apart}
 use Rattle.routing.specs.declared.found.Found.{Found}
 use Rattle.routing.specs.declared.label.Label.{Label}
-use Rattle.routing.specs.Limits.{last_minute, latest}
+use Rattle.routing.specs.Limits.{latest}
 
--- the first cause for refusal, if any, at these numbers of quays and places, labels, legs and items
-abbrev pub cause_of : Query → ℕ → ℕ → ℕ → ℕ → ℕ → Option Refusal
-cause_of q quays places labels legs items =
-    cond (nat_lt q.from quays) (cond (nat_lt q.to quays)
-    (cond (nat_le q.minute last_minute)
-    (cond (nat_lt q.class (length figures))
-    (cond (nat_le places labels) (cond (nat_le places legs)
+-- the first cause for refusal, if any, at these numbers of places, labels, legs and items
+abbrev pub room_cause : ℕ → ℕ → ℕ → ℕ → Option Refusal
+room_cause places labels legs items =
+    cond (nat_le places labels) (cond (nat_le places legs)
     (cond (nat_le places items)
     None
     (Some SmallLine))
-    (Some ShortBuffer)) (Some ShortBuffer))
-    (Some NoClass))
-    (Some LateMinute))
-    (Some NoQuay)) (Some NoQuay)
+    (Some ShortBuffer)) (Some ShortBuffer)
+
+-- the first of two causes, where there is one
+abbrev pub first_of : Option Refusal → Option Refusal → Option Refusal
+first_of None next = next
+first_of (Some e) next = Some e
+
+-- the first cause for refusal, if any, at these numbers of quays and places, labels, legs and items: what is wrong with the query comes first
+abbrev pub cause_of : Query → ℕ → ℕ → ℕ → ℕ → ℕ → Option Refusal
+cause_of q quays places labels legs items = first_of (query_cause q quays) (room_cause places labels legs items)
 
 -- what a caller lends to a route: the keys of a line, the labels and the legs
 pub record Lent : Type 0 where

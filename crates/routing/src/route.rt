@@ -3,7 +3,7 @@ ghost use Rattle.std.specs.Prelude.{◌≡◌, ℕ, ◌≤◌, length};
 ghost use Rattle.routing.specs.Labels.{view};
 ghost use Rattle.routing.specs.Trips.{trip_of};
 ghost use Rattle.routing.specs.Turns.{Asked};
-ghost use Rattle.routing.specs.Route.{cause_of, lent, Tells, Routed};
+ghost use Rattle.routing.specs.Route.{lent, Tells, Routed};
 
 use crate::begin::prepare;
 use crate::explore::explore;
@@ -17,40 +17,7 @@ use timetable::query::{Leg, Query};
 use timetable::refusal::Refusal;
 use timetable::span::Span;
 
-const LAST_MINUTE: u16 = 1439;
-
-const LAST_CLASS: u16 = 7;
-
 const MOST_QUAYS: usize = 256;
-
-// The first cause for refusal, if any, at these numbers of quays and places, labels, legs and items.
-fn cause(
-    query: Query,
-    quays: u16,
-    places: usize,
-    labels: usize,
-    legs: usize,
-    items: usize,
-) -> Option<Refusal>
-    ensures { result ≡ cause_of query quays places labels legs items }
-{
-    if query.from >= quays || query.to >= quays {
-        return Some(Refusal::NoQuay);
-    }
-    if query.minute > LAST_MINUTE {
-        return Some(Refusal::LateMinute);
-    }
-    if query.class > LAST_CLASS {
-        return Some(Refusal::NoClass);
-    }
-    if labels < places || legs < places {
-        return Some(Refusal::ShortBuffer);
-    }
-    if items < places {
-        return Some(Refusal::SmallLine);
-    }
-    None
-}
 
 // An earliest journey between two quays, written to the first rows of `legs`.
 fn find<B: Book, L: Line>(
@@ -86,16 +53,13 @@ pub fn route<B: Book, L: Line>(
 ) -> Result<Option<Found>, Refusal>
     ensures { Routed (B.meaning book.now) query (lent (L.keys line.old) labels.old legs.old) (lent (L.keys line.new) labels.new legs.new) result }
 {
-    let places = book.places() as usize;
-    if let Some(refusal) = cause(
-        query,
-        book.quays(),
-        places,
-        labels.len(),
-        legs.len(),
-        line.size() as usize,
-    ) {
-        return Err(refusal);
+    query.check(book.quays())?;
+    let places = usize::from(book.places());
+    if labels.len() < places || legs.len() < places {
+        return Err(Refusal::ShortBuffer);
+    }
+    if usize::from(line.size()) < places {
+        return Err(Refusal::SmallLine);
     }
     if query.from == query.to {
         return Ok(Some(Found {
@@ -103,5 +67,5 @@ pub fn route<B: Book, L: Line>(
             legs: 0,
         }));
     }
-    Ok(find(book, line, &mut labels[0..places], legs, query))
+    Ok(find(book, line, &mut labels[..places], legs, query))
 }

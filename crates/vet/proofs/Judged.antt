@@ -10,9 +10,11 @@ use Rattle.timetable.specs.Timetables.{Timetable, place_at}
 use Rattle.timetable.specs.Times.{length_of, next, Leaves}
 use Rattle.timetable.proofs.Laws.{next-late, next_leaves, next_least}
 use Rattle.journey.specs.Journeys.{Stand, Boards}
-use Rattle.vet.specs.Faults.{Lowest, Sails, MinutesOff, QuayOff, LeavesEarly, LegFault}
+use Rattle.timetable.specs.Queries.{Lowest}
+use Rattle.timetable.proofs.Queried.{at_least}
+use Rattle.vet.specs.Faults.{Sails, MinutesOff, QuayOff, LeavesEarly, LegFault}
 use Rattle.vet.specs.Vetting.{boarded, judged}
-use Rattle.vet.proofs.Numbered.{at_least, leg_one}
+use Rattle.vet.proofs.Numbered.{leg_one}
 
 -- a sailing leaves at a minute exactly where that is its own next departure
 pub leaves_at : (s : Sailing) (m : ℕ) → next s m ≡ m → Leaves s m

@@ -1,5 +1,5 @@
 -- A refusal of a query or of a plan is known by its number. Assumes nothing.
-use Rattle.std.proofs.Common.{◌≡◌, ℕ, ◌≤◌, cond, eqb, sym, refl, ap, ◌∙◌, subst, inl, inr, arith}
+use Rattle.std.proofs.Common.{◌≡◌, ℕ, cond, eqb, sym, refl, ap, ◌∙◌, subst, inl, inr, arith}
 use Rattle.timetable.specs.declared.query.Query.{Query}
 use Rattle.timetable.specs.declared.query.Leg.{Leg}
 use Rattle.timetable.specs.declared.refusal.Refusal.{Refusal}
@@ -7,7 +7,8 @@ use Rattle.timetable.specs.declared.refusal.Refusal.TheVariants.{NoQuay, LateMin
 use Rattle.timetable.specs.Refusals.{number_of}
 use Rattle.timetable.specs.Timetables.{Timetable}
 use Rattle.journey.specs.Journeys.{Stand}
-use Rattle.vet.specs.Faults.{Is, Lowest, QueryFault, LegFault}
+use Rattle.timetable.specs.Queries.{Is, Lowest}
+use Rattle.vet.specs.Faults.{QueryFault, LegFault}
 
 abbrev named : ℕ → Refusal
 named n =
@@ -38,7 +39,3 @@ leg_one t here leg = lowest_one (LegFault t here leg) (leg_named t here leg)
 
 pub query_one : (t : Timetable) (q : Query) (e f : Refusal) → Lowest (QueryFault t q) e → Lowest (QueryFault t q) f → e ≡ f
 query_one t q = lowest_one (QueryFault t q) (query_named t q)
-
--- what is due at all has at least the number of its cause
-pub at_least : (n : ℕ) (f e : Refusal) (P : Type 0) → n ≤ number_of f → Is f P e → n ≤ number_of e
-at_least n f e P h i = subst (λ x. n ≤ number_of x) (sym i.1) h

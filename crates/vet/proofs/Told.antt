@@ -11,7 +11,8 @@ use Rattle.timetable.specs.Classes.{class_minutes}
 use Rattle.journey.specs.Journeys.{Stand, start, after, Boards, Leads, Journey}
 use Rattle.vet.specs.declared.verdict.Verdict.{Verdict}
 use Rattle.vet.specs.declared.verdict.Verdict.TheVariants.{Holds, Fails}
-use Rattle.vet.specs.Faults.{Lowest, LegFault}
+use Rattle.timetable.specs.Queries.{Lowest}
+use Rattle.vet.specs.Faults.{LegFault}
 use Rattle.vet.specs.Vetting.{judged, later, onward, verdict_from, verdict_on}
 use Rattle.vet.specs.Verdicts.{Reaches, FitsFrom}
 use Rattle.vet.proofs.Judged.{Means, judged_means, right-judged, wrong_judged}

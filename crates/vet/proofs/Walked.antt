@@ -8,8 +8,8 @@ use Rattle.timetable.specs.declared.sailing.Sailing.{Sailing}
 use Rattle.timetable.specs.declared.query.Leg.{Leg}
 use Rattle.timetable.specs.declared.query.Query.{Query}
 use Rattle.timetable.specs.declared.refusal.Refusal.{Refusal}
-use Rattle.timetable.specs.declared.refusal.Refusal.TheVariants.{NoClass, EndsElsewhere}
-use Rattle.timetable.specs.Classes.{figures, class_minutes, minutes_for}
+use Rattle.timetable.specs.declared.refusal.Refusal.TheVariants.{EndsElsewhere}
+use Rattle.timetable.specs.Classes.{class_minutes, minutes_for}
 use Rattle.timetable.specs.Timetables.{Timetable}
 use Rattle.journey.specs.Journeys.{Stand, start, after}
 use Rattle.vet.specs.declared.verdict.Verdict.{Verdict}

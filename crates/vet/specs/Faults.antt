@@ -1,31 +1,18 @@
 -- What can be wrong with a query, and with a leg of a plan. Assumes nothing.
-use Rattle.std.specs.Prelude.{◌≡◌, ◌+◌, ◌<◌, ◌≤◌, ◌⊎◌, length, Some, None, ◌≢◌}
+use Rattle.std.specs.Prelude.{◌≡◌, ◌+◌, ◌<◌, ◌⊎◌, length, Some, None, ◌≢◌}
 use Rattle.timetable.specs.declared.sailing.Sailing.{Sailing}
 use Rattle.timetable.specs.declared.query.Query.{Query}
 use Rattle.timetable.specs.declared.query.Leg.{Leg}
 use Rattle.timetable.specs.declared.refusal.Refusal.{Refusal}
-use Rattle.timetable.specs.declared.refusal.Refusal.TheVariants.{NoQuay, LateMinute, NoClass, NoSailing, WrongMinutes, WrongQuay, TooEarly}
-use Rattle.timetable.specs.Refusals.{number_of}
-use Rattle.timetable.specs.Classes.{figures}
+use Rattle.timetable.specs.declared.refusal.Refusal.TheVariants.{NoSailing, WrongMinutes, WrongQuay, TooEarly}
+use Rattle.timetable.specs.Queries.{Is, Unfit}
 use Rattle.timetable.specs.Timetables.{Timetable, place_at}
-use Rattle.timetable.specs.Times.{day, length_of, Leaves}
+use Rattle.timetable.specs.Times.{length_of, Leaves}
 use Rattle.journey.specs.Journeys.{Stand}
-
--- the refusal f is due where P is so
-abbrev pub Is : Refusal → Type 0 → Refusal → Type 0
-Is f P e = P × (e ≡ f)
-
--- of all that is wrong, no other has a lower number
-pub record Lowest (Wrong : Refusal → Type 0) (e : Refusal) : Type 0 where
-  pub wrong : Wrong e
-  pub lowest : (f : Refusal) → Wrong f → number_of e ≤ number_of f
 
 -- a query from or to no quay of the book, after the last minute of the day, or with no class of cargo
 abbrev pub QueryFault : Timetable → Query → Refusal → Type 0
-QueryFault t q e =
-    Is NoQuay ((length t.changes ≤ q.from) ⊎ (length t.changes ≤ q.to)) e
-    ⊎ (Is LateMinute (day ≤ q.minute) e
-    ⊎ Is NoClass (length figures ≤ q.class) e)
+QueryFault t q e = Unfit q (length t.changes) e
 
 -- the place is blank, or there is no such place
 abbrev pub NoSailingThere : Timetable → Leg → Type 0

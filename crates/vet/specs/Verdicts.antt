@@ -10,7 +10,8 @@ use Rattle.timetable.specs.Timetables.{Timetable}
 use Rattle.journey.specs.Journeys.{Stand, start, after, Boards, Leads, Journey}
 use Rattle.vet.specs.declared.verdict.Verdict.{Verdict}
 use Rattle.vet.specs.declared.verdict.Verdict.TheVariants.{Holds, Fails}
-use Rattle.vet.specs.Faults.{Lowest, QueryFault, LegFault}
+use Rattle.timetable.specs.Queries.{Lowest}
+use Rattle.vet.specs.Faults.{QueryFault, LegFault}
 
 -- the legs, each of them right, take a load from here to there
 abbrev pub Reaches : Timetable → ℕ → Stand → List Leg → Stand → Type 0

@@ -1,13 +1,14 @@
 -- A plan is judged leg by leg. Assumes nothing.
-use Rattle.std.specs.Prelude.{ℕ, ◌+◌, cond, List, [], ◌∷◌, length, Some, None, Ok, Err, Option, Result, ◌==◌, nat_le, nat_lt}
+use Rattle.std.specs.Prelude.{ℕ, ◌+◌, cond, List, [], ◌∷◌, length, Some, None, Ok, Err, Option, Result, ◌==◌, nat_le}
 use Rattle.timetable.specs.declared.sailing.Sailing.{Sailing}
 use Rattle.timetable.specs.declared.query.Query.{Query}
 use Rattle.timetable.specs.declared.query.Leg.{Leg}
 use Rattle.timetable.specs.declared.refusal.Refusal.{Refusal}
-use Rattle.timetable.specs.declared.refusal.Refusal.TheVariants.{NoQuay, LateMinute, NoClass, NoSailing, WrongMinutes, WrongQuay, TooEarly, EndsElsewhere}
-use Rattle.timetable.specs.Classes.{figures, class_minutes}
+use Rattle.timetable.specs.declared.refusal.Refusal.TheVariants.{NoSailing, WrongMinutes, WrongQuay, TooEarly, EndsElsewhere}
+use Rattle.timetable.specs.Queries.{query_cause, unless}
+use Rattle.timetable.specs.Classes.{class_minutes}
 use Rattle.timetable.specs.Timetables.{Timetable, place_at}
-use Rattle.timetable.specs.Times.{day, length_of, next}
+use Rattle.timetable.specs.Times.{length_of, next}
 use Rattle.journey.specs.Journeys.{Stand, start, after}
 use Rattle.vet.specs.declared.verdict.Verdict.{Verdict}
 use Rattle.vet.specs.declared.verdict.Verdict.TheVariants.{Holds, Fails}
@@ -45,21 +46,6 @@ verdict_from t extra here (leg ∷ legs) to = onward (judged t here leg) (λ s. 
 abbrev pub verdict_on : Timetable → Query → List Leg → Verdict
 verdict_on t q plan = verdict_from t (class_minutes q.class) (start q.from q.minute) plan q.to
 
--- the first cause for which a query is refused, if any, in a book with this many quays
-abbrev pub cause_of : Query → ℕ → Option Refusal
-cause_of q quays =
-    cond (nat_lt q.from quays) (cond (nat_lt q.to quays)
-    (cond (nat_lt q.minute day)
-    (cond (nat_lt q.class (length figures))
-    None
-    (Some NoClass))
-    (Some LateMinute))
-    (Some NoQuay)) (Some NoQuay)
-
-abbrev pub unless : Option Refusal → Verdict → Result Verdict Refusal
-unless None v = Ok v
-unless (Some e) v = Err e
-
 -- the answer to a vetting
 abbrev pub vetted : Timetable → Query → List Leg → Result Verdict Refusal
-vetted t q plan = unless (cause_of q (length t.changes)) (verdict_on t q plan)
+vetted t q plan = unless (query_cause q (length t.changes)) (verdict_on t q plan)

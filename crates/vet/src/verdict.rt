@@ -2,7 +2,7 @@ use timetable::refusal::Refusal;
 
 // What is said of a plan. One that fails does so at its first wrong leg, counted from 0;
 // one whose legs are all right, but that ends elsewhere, fails at the number of its legs.
-#[derive(Clone, Copy)]
+#[derive(Clone, Copy, PartialEq, Debug)]
 pub enum Verdict {
     Holds { arrival: u32 },
     Fails { leg: usize, refusal: Refusal },
