@@ -28,25 +28,25 @@ pub some_from_ok : {X : Type 0} (o : Option X) (e : LineFault) (x : X) → ok_or
 some_from_ok None e x h = let z : ◌≡◌ {A = ℕ} 0 1 = cc in absurd (omega arith)
 some_from_ok (Some y) e x h = cc
 
-pub number_stands : (line : List ℕ) (at : ℕ) (f : Field) → number_here line at ≡ Ok f → Numeral line at f
+pub number_stands : (line : List ℕ) (at : ℕ) (f : Field ℕ) → number_here line at ≡ Ok f → Numeral line at f
 number_stands line at f h = number_tells line at f (some_from_ok (number_at line at) (NoNumber at) f h)
 
-pub number_here_lem : (line : List ℕ) (at : ℕ) (f : Field) → Numeral line at f → number_here line at ≡ Ok f
+pub number_here_lem : (line : List ℕ) (at : ℕ) (f : Field ℕ) → Numeral line at f → number_here line at ≡ Ok f
 number_here_lem line at f h = ap (λ o. ok_or o (NoNumber at)) (number_told line at f h)
 
-time_stands : (line : List ℕ) (at : ℕ) (f : Field) → time_here line at ≡ Ok f → TimeOfDay line at f
+time_stands : (line : List ℕ) (at : ℕ) (f : Field ℕ) → time_here line at ≡ Ok f → TimeOfDay line at f
 time_stands line at f h = time_tells line at f (some_from_ok (time_at line at) (NoTime at) f h)
 
-time_here_lem : (line : List ℕ) (at : ℕ) (f : Field) → TimeOfDay line at f → time_here line at ≡ Ok f
+time_here_lem : (line : List ℕ) (at : ℕ) (f : Field ℕ) → TimeOfDay line at f → time_here line at ≡ Ok f
 time_here_lem line at f h = ap (λ o. ok_or o (NoTime at)) (time_told line at f h)
 
 -- two fields, one from the byte after the other
-pub record Both (P : ℕ → Field → Type 0) (at : ℕ) (p : Pair) : Type 0 where
+pub record Both (P : ℕ → Field ℕ → Type 0) (at : ℕ) (p : Pair) : Type 0 where
   pub mid : ℕ
   pub first : P at (record { value = p.first; next = mid })
   pub second : P mid (record { value = p.second; next = p.next })
 
-both_stand : (P : ℕ → Field → Type 0) (here : ℕ → Result Field LineFault) → ((at : ℕ) (f : Field) → here at ≡ Ok f → P at f) → (at : ℕ) (p : Pair) → and_then (here at) (λ f. and_then (here f.next) (λ g. Ok (pair_of f g))) ≡ Ok p → Both P at p
+both_stand : (P : ℕ → Field ℕ → Type 0) (here : ℕ → Result (Field ℕ) LineFault) → ((at : ℕ) (f : Field ℕ) → here at ≡ Ok f → P at f) → (at : ℕ) (p : Pair) → and_then (here at) (λ f. and_then (here f.next) (λ g. Ok (pair_of f g))) ≡ Ok p → Both P at p
 both_stand P here stands at p h =
     let a = came (here at) (λ f. and_then (here f.next) (λ g. Ok (pair_of f g))) p h in
     let b = came (here a.mid.next) (λ g. Ok (pair_of a.mid g)) p a.then in
@@ -55,13 +55,13 @@ both_stand P here stands at p h =
     same : (q p : Pair) → ◌≡◌ {A = Result Pair LineFault} (Ok q) (Ok p) → q ≡ p
     same q p e = cc
 
-    made : (f g : Field) → P at f → P f.next g → pair_of f g ≡ p → Both P at p
+    made : (f g : Field ℕ) → P at f → P f.next g → pair_of f g ≡ p → Both P at p
     made f g x y e = subst (λ q. Both P at q) e (record { mid = f.next; first = x; second = y })
 
-both_here : (P : ℕ → Field → Type 0) (here : ℕ → Result Field LineFault) → ((at : ℕ) (f : Field) → P at f → here at ≡ Ok f) → (at : ℕ) (p : Pair) → Both P at p → and_then (here at) (λ f. and_then (here f.next) (λ g. Ok (pair_of f g))) ≡ Ok p
+both_here : (P : ℕ → Field ℕ → Type 0) (here : ℕ → Result (Field ℕ) LineFault) → ((at : ℕ) (f : Field ℕ) → P at f → here at ≡ Ok f) → (at : ℕ) (p : Pair) → Both P at p → and_then (here at) (λ f. and_then (here f.next) (λ g. Ok (pair_of f g))) ≡ Ok p
 both_here P here stands at p h =
-    let f : Field = record { value = p.first; next = h.mid } in
-    let g : Field = record { value = p.second; next = p.next } in
+    let f : Field ℕ = record { value = p.first; next = h.mid } in
+    let g : Field ℕ = record { value = p.second; next = p.next } in
     goes (here at) (λ f. and_then (here f.next) (λ g. Ok (pair_of f g))) f p (stands at f h.first)
     (goes (here h.mid) (λ g. Ok (pair_of f g)) g p (stands h.mid g h.second) refl)
 

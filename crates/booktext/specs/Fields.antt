@@ -8,10 +8,10 @@ use Rattle.booktext.specs.declared.entry.LineFault.{LineFault}
 use Rattle.booktext.specs.declared.entry.LineFault.TheVariants.{NoNumber, NoTime}
 use Rattle.booktext.specs.declared.pair.Pair.{Pair}
 
-abbrev pub number_here : List ℕ → ℕ → Result Field LineFault
+abbrev pub number_here : List ℕ → ℕ → Result (Field ℕ) LineFault
 number_here line at = ok_or (number_at line at) (NoNumber at)
 
-abbrev pub time_here : List ℕ → ℕ → Result Field LineFault
+abbrev pub time_here : List ℕ → ℕ → Result (Field ℕ) LineFault
 time_here line at = ok_or (time_at line at) (NoTime at)
 
 -- a fault ends the reading
@@ -19,7 +19,7 @@ abbrev pub and_then : {X Y : Type 0} → Result X LineFault → (X → Result Y 
 and_then (Ok x) k = k x
 and_then (Err e) k = Err e
 
-abbrev pub pair_of : Field → Field → Pair
+abbrev pub pair_of : Field ℕ → Field ℕ → Pair
 pair_of f g = record { first = f.value; second = g.value; next = g.next }
 
 abbrev pub two_numbers : List ℕ → ℕ → Result Pair LineFault

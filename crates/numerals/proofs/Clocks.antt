@@ -62,15 +62,15 @@ made (Some h) (Some m) v e =
     }
 
 -- a value that was found, with the byte after it
-pub record Upto (o : Option ℕ) (next : ℕ) (f : Field) : Type 0 where
+pub record Upto (o : Option ℕ) (next : ℕ) (f : Field ℕ) : Type 0 where
   pub there : o ≡ Some f.value
   pub ends : f.next ≡ next
 
-upto : (o : Option ℕ) (next : ℕ) (f : Field) → up_to o next ≡ Some f → Upto o next f
+upto : (o : Option ℕ) (next : ℕ) (f : Field ℕ) → up_to o next ≡ Some f → Upto o next f
 upto None next f h = let z : ◌≡◌ {A = ℕ} 0 1 = cc in absurd (omega arith)
 upto (Some v) next f h = record { there = cc; ends = cc }
 
-pub time_tells : (line : List ℕ) (at : ℕ) (f : Field) → time_at line at ≡ Some f → TimeOfDay line at f
+pub time_tells : (line : List ℕ) (at : ℕ) (f : Field ℕ) → time_at line at ≡ Some f → TimeOfDay line at f
 time_tells line at f h =
     let a = opened (leb (at + 6) (length line) && (eqb (get_or line at 0) 32 && eqb (get_or line (at + 3) 0) 58)) (up_to (clock_from line (at + 1)) (at + 6)) f h in
     let s = and_parts (leb (at + 6) (length line)) (eqb (get_or line at 0) 32 && eqb (get_or line (at + 3) 0) 58) a.0 in
@@ -93,7 +93,7 @@ time_tells line at f h =
       inside = omega (arith, u.ends);
     }
 
-pub time_told : (line : List ℕ) (at : ℕ) (f : Field) → TimeOfDay line at f → time_at line at ≡ Some f
+pub time_told : (line : List ℕ) (at : ℕ) (f : Field ℕ) → TimeOfDay line at f → time_at line at ≡ Some f
 time_told line at f h =
     let hours = two_digits line (at + 1) in
     let minutes = two_digits line (at + 4) in

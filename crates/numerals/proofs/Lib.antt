@@ -1,4 +1,2 @@
-pub mod Runs
 pub mod Standing
 pub mod Clocks
-pub mod Widely

@@ -19,17 +19,17 @@ minutes_of (Some h) (Some m) = cond (nat_lt 23 h || nat_lt 59 m) None (Some (60 
 abbrev pub clock_from : List ℕ → ℕ → Option ℕ
 clock_from line at = minutes_of (two_from line at) (two_from line (at + 3))
 
-abbrev pub up_to : Option ℕ → ℕ → Option Field
+abbrev pub up_to : Option ℕ → ℕ → Option (Field ℕ)
 up_to None next = None
 up_to (Some v) next = Some (record { value = v; next = next })
 
 -- a space, and a time with its colon
-abbrev pub time_at : List ℕ → ℕ → Option Field
+abbrev pub time_at : List ℕ → ℕ → Option (Field ℕ)
 time_at line at =
     cond (nat_le (at + 6) (length line) && (slice_index line at == 32 && slice_index line (at + 3) == 58)) (up_to (clock_from line (at + 1)) (at + 6)) None
 
 -- a time of the day stands in a line from byte `at` on
-pub record TimeOfDay (line : List ℕ) (at : ℕ) (f : Field) : Type 0 where
+pub record TimeOfDay (line : List ℕ) (at : ℕ) (f : Field ℕ) : Type 0 where
   pub space : slice_index_or line at 0 ≡ 32
   pub hour_digits : AllDigits line (at + 1) (at + 3)
   pub colon : slice_index_or line (at + 3) 0 ≡ 58

@@ -1,33 +1,26 @@
 //! Digits, and the numbers that they write.
-ghost use Rattle.std.specs.Prelude.{◌≡◌, ◌≤◌, length, take};
-ghost use Rattle.numerals.specs.Digits.{is_digit, digit_run, decimal};
-
-pub(crate) fn is_digit(byte: u8) -> bool
-    ensures { result ≡ is_digit byte }
-{
-    b'0' <= byte && byte <= b'9'
-}
+ghost use Rattle.std.specs.Prelude.{◌≡◌, ◌≤◌, length};
+ghost use Rattle.numerals.specs.Digits.{digit_run, decimal};
 
 // How many digits the bytes begin with.
 pub(crate) fn digit_run(bytes: &[u8]) -> usize
     ensures value { result ≡ digit_run bytes.now }
     ensures bound { result ≤ length bytes.now }
 {
-    let mut count = 0;
-    while count < bytes.len() && is_digit(bytes[count]) {
-        count += 1;
-    }
-    count
+    bytes
+        .iter()
+        .take_while(|byte| byte.is_ascii_digit())
+        .count()
 }
 
-// The number that the first `count` bytes write.
-pub(crate) fn number_in(bytes: &[u8], count: usize) -> u64
-    requires { (count ≤ 10) × (count ≤ length bytes.now) }
-    ensures { result ≡ decimal (take count bytes.now) }
+// The number that digits write.
+pub(crate) fn number_in(digits: &[u8]) -> u64
+    requires { length digits.now ≤ 10 }
+    ensures { result ≡ decimal digits.now }
 {
     let mut value = 0u64;
-    for i in 0..count {
-        value = value * 10 + bytes[i].saturating_sub(b'0') as u64;
+    for byte in digits {
+        value = value * 10 + u64::from(byte.saturating_sub(b'0'));
     }
     value
 }

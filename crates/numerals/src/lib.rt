@@ -5,5 +5,4 @@ mod digits;
 pub mod field;
 pub mod number;
 pub mod time;
-pub mod wide;
-pub mod wide_field;
+pub mod unsigned;

@@ -1,36 +1,31 @@
-//! Numbers of up to 16 bits.
+//! Numbers.
 ghost use Rattle.std.specs.Prelude.{◌≡◌, ◌+◌, ◌^◌, ◌<◌, ◌≤◌, length, IfSome};
-ghost use Rattle.numerals.specs.Numbers.{numeral_from, number_at, Numeral};
+ghost use Rattle.numerals.specs.Numbers.{numeral_from, numeral_at, Stands};
 ghost use Rattle.numerals.specs.Fields.{Reads};
 
 use crate::digits::*;
 use crate::field::Field;
-
-const MOST_DIGITS: usize = 5;
-
-const MOST: u64 = 65535;
+use crate::unsigned::Unsigned;
 
 // The number that the bytes begin with. They stand in their line from `start` on.
-fn numeral(bytes: &[u8], start: usize) -> Option<Field>
+fn numeral<T: Unsigned>(bytes: &[u8], start: usize) -> Option<Field<T>>
     requires { start + length bytes.now < 2 ^ 64 }
-    ensures { result ≡ numeral_from bytes.now start }
+    ensures { result ≡ numeral_from T.of T.MOST_DIGITS T.most bytes.now start }
 {
     let count = digit_run(bytes);
-    if count == 0 || count > MOST_DIGITS {
+    if count == 0 || count > T::MOST_DIGITS {
         return None;
     }
-    let value = number_in(bytes, count);
-    if value > MOST {
-        return None;
-    }
+    let (digits, _) = bytes.split_at(count);
+    let value = T::narrow(number_in(digits))?;
     Some(Field {
-        value: value as u16,
+        value,
         next: start + count,
     })
 }
 
-fn spaced_numeral(line: &[u8], at: usize) -> Option<Field>
-    ensures { result ≡ number_at line.now at }
+fn spaced_numeral<T: Unsigned>(line: &[u8], at: usize) -> Option<Field<T>>
+    ensures { result ≡ numeral_at T.of T.MOST_DIGITS T.most line.now at }
 {
     if at >= line.len() || line[at] != b' ' {
         return None;
@@ -39,10 +34,11 @@ fn spaced_numeral(line: &[u8], at: usize) -> Option<Field>
     numeral(rest, at + 1)
 }
 
-// The number that stands from byte `at` of a line on: one space, then one to five digits and no further one, and at most 65,535.
-pub fn number_field(line: &[u8], at: usize) -> Option<Field>
-    ensures value { result ≡ number_at line.now at }
-    ensures exact { (f : Field) → Reads result f (Numeral line.now at f) }
+// The number that stands from byte `at` of a line on: one space, then as many digits as a number of this type may have and no further one, and at most the greatest.
+// For 16 bits these are one to five digits and 65,535, and for 32 bits one to ten and 4,294,967,295.
+pub fn number_field<T: Unsigned>(line: &[u8], at: usize) -> Option<Field<T>>
+    ensures value { result ≡ numeral_at T.of T.MOST_DIGITS T.most line.now at }
+    ensures exact { (f : Field T) → Reads result f (Stands T.worth T.MOST_DIGITS T.most line.now at f) }
     ensures within { IfSome result (λ f. f.next ≤ length line.now) }
 {
     spaced_numeral(line, at)

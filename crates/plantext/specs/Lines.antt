@@ -6,8 +6,7 @@ use Rattle.timetable.specs.declared.refusal.Refusal.TheVariants.{NoLetter, NoNum
 use Rattle.timetable.specs.declared.query.Query.{Query}
 use Rattle.timetable.specs.declared.query.Leg.{Leg}
 use Rattle.numerals.specs.declared.field.Field.{Field}
-use Rattle.numerals.specs.declared.wide_field.WideField.{WideField}
-use Rattle.numerals.specs.Wides.{wide_at}
+use Rattle.numerals.specs.Numbers.{wide_at}
 use Rattle.timetable.specs.declared.call.Call.{Call}
 use Rattle.timetable.specs.declared.call.Call.TheVariants.{Withhold, Release, Shut, Open, Thin, Route}
 use Rattle.typed.specs.Fields.{number_here, and_then, whole, query_of}
@@ -32,10 +31,10 @@ query_in (Route q) = Ok q
 abbrev pub query_line : List ℕ → Result Query Refusal
 query_line line = and_then (lettered line 81) (λ _. query_of line)
 
-abbrev pub wide_here : List ℕ → ℕ → Result WideField Refusal
+abbrev pub wide_here : List ℕ → ℕ → Result (Field ℕ) Refusal
 wide_here line at = ok_or (wide_at line at) NoNumber
 
-abbrev pub leg_with : Field → WideField → WideField → Leg
+abbrev pub leg_with : Field ℕ → Field ℕ → Field ℕ → Leg
 leg_with place leaves arrives = record { place = place.value; leaves = leaves.value; arrives = arrives.value }
 
 -- the numbers of a leg, and nothing after them

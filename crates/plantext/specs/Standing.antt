@@ -3,9 +3,7 @@ use Rattle.std.specs.Prelude.{◌≡◌, ℕ, ◌<◌, ◌≤◌, ◌⊎◌, Lis
 use Rattle.timetable.specs.declared.query.Query.{Query}
 use Rattle.timetable.specs.declared.query.Leg.{Leg}
 use Rattle.numerals.specs.declared.field.Field.{Field}
-use Rattle.numerals.specs.declared.wide_field.WideField.{WideField}
-use Rattle.numerals.specs.Numbers.{Numeral}
-use Rattle.numerals.specs.Wides.{WideNumeral}
+use Rattle.numerals.specs.Numbers.{Numeral, WideNumeral}
 use Rattle.timetable.specs.declared.call.Call.TheVariants.{Route}
 use Rattle.typed.specs.Saying.{Asks, Misses, Exceeds}
 
@@ -35,17 +33,17 @@ pub record LegStands (line : List ℕ) (leg : Leg) : Type 0 where
 -- none stands where the first number is due, or the second, or the third
 abbrev pub LegMisses : List ℕ → Type 0
 LegMisses line =
-    ((p : Field) → Numeral line 1 p → ⊥)
-    ⊎ ((p : Field) × Numeral line 1 p
-    × (((l : WideField) → WideNumeral line p.next l → ⊥)
-    ⊎ ((l : WideField) × WideNumeral line p.next l
-    × ((a : WideField) → WideNumeral line l.next a → ⊥))))
+    ((p : Field ℕ) → Numeral line 1 p → ⊥)
+    ⊎ ((p : Field ℕ) × Numeral line 1 p
+    × (((l : Field ℕ) → WideNumeral line p.next l → ⊥)
+    ⊎ ((l : Field ℕ) × WideNumeral line p.next l
+    × ((a : Field ℕ) → WideNumeral line l.next a → ⊥))))
 
 -- all three stand there, and the line goes on
 pub record LegExceeds (line : List ℕ) : Type 0 where
-  pub place : Field
-  pub leaves : WideField
-  pub arrives : WideField
+  pub place : Field ℕ
+  pub leaves : Field ℕ
+  pub arrives : Field ℕ
   pub place_stands : Numeral line 1 place
   pub leaves_stands : WideNumeral line place.next leaves
   pub arrives_stands : WideNumeral line leaves.next arrives

@@ -20,21 +20,21 @@ numbers line at zero = whole line at []
 numbers line at (suc n) = and_then (number_here line at) (λ f. put f.value (numbers line f.next n))
 
 -- a number where it is due, or none there
-here_or_not : (line : List ℕ) (at : ℕ) → ((f : Field) × (number_here line at ≡ Ok f) × Numeral line at f) ⊎ ((number_here line at ≡ Err NoNumber) × ((f : Field) → Numeral line at f → ⊥))
+here_or_not : (line : List ℕ) (at : ℕ) → ((f : Field ℕ) × (number_here line at ≡ Ok f) × Numeral line at f) ⊎ ((number_here line at ≡ Err NoNumber) × ((f : Field ℕ) → Numeral line at f → ⊥))
 here_or_not line at = go (number_at line at) refl
   where
-    go : (o : Option Field) → number_at line at ≡ o → ((f : Field) × (number_here line at ≡ Ok f) × Numeral line at f) ⊎ ((number_here line at ≡ Err NoNumber) × ((f : Field) → Numeral line at f → ⊥))
+    go : (o : Option (Field ℕ)) → number_at line at ≡ o → ((f : Field ℕ) × (number_here line at ≡ Ok f) × Numeral line at f) ⊎ ((number_here line at ≡ Err NoNumber) × ((f : Field ℕ) → Numeral line at f → ⊥))
     go None e = inr (ap (λ o. ok_or o NoNumber) e, λ f h. let q = number_told line at f h in let z : ◌≡◌ {A = ℕ} 0 1 = cc in omega arith)
     go (Some f) e = inl (f, ap (λ o. ok_or o NoNumber) e, number_tells line at f e)
 
-number_here_lem : (line : List ℕ) (at : ℕ) (f : Field) → Numeral line at f → number_here line at ≡ Ok f
+number_here_lem : (line : List ℕ) (at : ℕ) (f : Field ℕ) → Numeral line at f → number_here line at ≡ Ok f
 number_here_lem line at f h = ap (λ o. ok_or o NoNumber) (number_told line at f h)
 
-none_here : (line : List ℕ) (at : ℕ) → ((f : Field) → Numeral line at f → ⊥) → number_here line at ≡ Err NoNumber
+none_here : (line : List ℕ) (at : ℕ) → ((f : Field ℕ) → Numeral line at f → ⊥) → number_here line at ≡ Err NoNumber
 none_here line at h = ⊎_elim (λ w. absurd (h w.0 w.2)) (λ w. w.0) (here_or_not line at)
 
 -- how the numbers go on after one, and that they do not after none
-goes_on : (line : List ℕ) (at n : ℕ) (f : Field) → number_here line at ≡ Ok f → numbers line at (suc n) ≡ put f.value (numbers line f.next n)
+goes_on : (line : List ℕ) (at n : ℕ) (f : Field ℕ) → number_here line at ≡ Ok f → numbers line at (suc n) ≡ put f.value (numbers line f.next n)
 goes_on line at n f e = ap (λ r. and_then r (λ g. put g.value (numbers line g.next n))) e
 
 stops : (line : List ℕ) (at n : ℕ) → number_here line at ≡ Err NoNumber → numbers line at (suc n) ≡ Err NoNumber
@@ -98,7 +98,7 @@ pub record Few (line : List ℕ) (at n : ℕ) : Type 0 where
   pub end : ℕ
   pub stand : Stand line at read end
   pub fewer : length read < n
-  pub none : (f : Field) → Numeral line end f → ⊥
+  pub none : (f : Field ℕ) → Numeral line end f → ⊥
 
 pub few_tells : (line : List ℕ) (n at : ℕ) → numbers line at n ≡ Err NoNumber → Few line at n
 few_tells line zero at h = ⊎_elim (λ w. absurd (ok_not [] NoNumber (sym w.1 ∙ h))) (λ w. absurd (surplus_not (sym w.1 ∙ h))) (ends_or_not line at)
@@ -108,12 +108,12 @@ few_tells line (suc n) at h =
     (λ w. record { read = []; end = at; stand = refl; fewer = omega arith; none = w.1 })
     (here_or_not line at)
   where
-    one_more : (f : Field) → Numeral line at f → Few line f.next n → Few line at (suc n)
+    one_more : (f : Field ℕ) → Numeral line at f → Few line f.next n → Few line at (suc n)
     one_more f q p =
         let l = p.fewer in
         record { read = f.value ∷ p.read; end = p.end; stand = (f.next, q, p.stand); fewer = omega arith; none = p.none }
 
-pub few_told : (line : List ℕ) (read : List ℕ) (n at end : ℕ) → Stand line at read end → length read < n → ((f : Field) → Numeral line end f → ⊥) → numbers line at n ≡ Err NoNumber
+pub few_told : (line : List ℕ) (read : List ℕ) (n at end : ℕ) → Stand line at read end → length read < n → ((f : Field ℕ) → Numeral line end f → ⊥) → numbers line at n ≡ Err NoNumber
 few_told line read zero at end h l none = absurd (omega arith)
 few_told line [] (suc n) at end h l none = stops line at n (none_here line at (λ f q. none f (subst (λ k. Numeral line k f) h q)))
 few_told line (v ∷ vs) (suc n) at end h l none =
@@ -141,7 +141,7 @@ many_tells line (suc n) at inside h =
     (λ w. absurd (surplus_not (sym h ∙ stops line at n w.0)))
     (here_or_not line at)
   where
-    one_more : (f : Field) → Numeral line at f → Many line f.next n → Many line at (suc n)
+    one_more : (f : Field ℕ) → Numeral line at f → Many line f.next n → Many line at (suc n)
     one_more f q p = record { read = f.value ∷ p.read; end = p.end; stand = (f.next, q, p.stand); all = ap suc p.all; more = p.more }
 
 pub many_told : (line : List ℕ) (read : List ℕ) (n at end : ℕ) → Stand line at read end → length read ≡ n → end < length line → numbers line at n ≡ Err Surplus

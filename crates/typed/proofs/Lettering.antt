@@ -40,7 +40,7 @@ one_way line letter F vs l = (reads (number_here line 1), same_letter F letter l
     ends true v = ap Ok (vs v)
     ends false v = refl
 
-    reads : (h : Result Field Refusal) → numbers_in (result_map_both F (λ e. e) (and_then h (λ f. whole line f.next f.value))) ≡ and_then h (λ f. put f.value (numbers line f.next 0))
+    reads : (h : Result (Field ℕ) Refusal) → numbers_in (result_map_both F (λ e. e) (and_then h (λ f. whole line f.next f.value))) ≡ and_then h (λ f. put f.value (numbers line f.next 0))
     reads (Ok f) = ends (eqb f.next (length line)) f.value
     reads (Err e) = refl
 
@@ -65,19 +65,19 @@ route_way line letter l = (one (number_here line 1), same_letter Route letter (�
     ends true q = refl
     ends false q = refl
 
-    four : (from to minute : Field) (h : Result Field Refusal) → numbers_in (result_map_both Route (λ e. e) (and_then h (λ class. whole line class.next (query_with from to minute class)))) ≡ put from.value (put to.value (put minute.value (and_then h (λ f. put f.value (numbers line f.next 0)))))
+    four : (from to minute : Field ℕ) (h : Result (Field ℕ) Refusal) → numbers_in (result_map_both Route (λ e. e) (and_then h (λ class. whole line class.next (query_with from to minute class)))) ≡ put from.value (put to.value (put minute.value (and_then h (λ f. put f.value (numbers line f.next 0)))))
     four from to minute (Ok class) = ends (eqb class.next (length line)) (query_with from to minute class)
     four from to minute (Err e) = refl
 
-    three : (from to : Field) (h : Result Field Refusal) → numbers_in (result_map_both Route (λ e. e) (and_then h (λ minute. and_then (number_here line minute.next) (λ class. whole line class.next (query_with from to minute class))))) ≡ put from.value (put to.value (and_then h (λ f. put f.value (numbers line f.next 1))))
+    three : (from to : Field ℕ) (h : Result (Field ℕ) Refusal) → numbers_in (result_map_both Route (λ e. e) (and_then h (λ minute. and_then (number_here line minute.next) (λ class. whole line class.next (query_with from to minute class))))) ≡ put from.value (put to.value (and_then h (λ f. put f.value (numbers line f.next 1))))
     three from to (Ok minute) = four from to minute (number_here line minute.next)
     three from to (Err e) = refl
 
-    two : (from : Field) (h : Result Field Refusal) → numbers_in (result_map_both Route (λ e. e) (and_then h (λ to. and_then (number_here line to.next) (λ minute. and_then (number_here line minute.next) (λ class. whole line class.next (query_with from to minute class)))))) ≡ put from.value (and_then h (λ f. put f.value (numbers line f.next 2)))
+    two : (from : Field ℕ) (h : Result (Field ℕ) Refusal) → numbers_in (result_map_both Route (λ e. e) (and_then h (λ to. and_then (number_here line to.next) (λ minute. and_then (number_here line minute.next) (λ class. whole line class.next (query_with from to minute class)))))) ≡ put from.value (and_then h (λ f. put f.value (numbers line f.next 2)))
     two from (Ok to) = three from to (number_here line to.next)
     two from (Err e) = refl
 
-    one : (h : Result Field Refusal) → numbers_in (result_map_both Route (λ e. e) (and_then h (λ from. and_then (number_here line from.next) (λ to. and_then (number_here line to.next) (λ minute. and_then (number_here line minute.next) (λ class. whole line class.next (query_with from to minute class))))))) ≡ and_then h (λ f. put f.value (numbers line f.next 3))
+    one : (h : Result (Field ℕ) Refusal) → numbers_in (result_map_both Route (λ e. e) (and_then h (λ from. and_then (number_here line from.next) (λ to. and_then (number_here line to.next) (λ minute. and_then (number_here line minute.next) (λ class. whole line class.next (query_with from to minute class))))))) ≡ and_then h (λ f. put f.value (numbers line f.next 3))
     one (Ok from) = two from (number_here line from.next)
     one (Err e) = refl
 

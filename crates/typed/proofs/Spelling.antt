@@ -27,6 +27,9 @@ digits_more n h =
     ap bytes (digits_of_step 10 (n / 10) (omega arith) some) ∙ map-append (λ d. 48 + d) (digits_of 10 (n / 10 / 10)) ((n / 10 % 10) ∷ []) in
     ap (λ k. k ++ (48 + n % 10) ∷ []) front
 
+pub digits_grow : (n : ℕ) → 10 ≤ n → length (digits n) ≡ length (digits (n / 10)) + 1
+digits_grow n h = ap length (digits_more n h) ∙ length_push (digits (n / 10)) (48 + n % 10)
+
 pub few_digits : (n : ℕ) → n < 2 ^ 64 → length (digits n) ≤ 20
 few_digits n h =
     omega (arith, length_push (bytes (digits_of 10 (n / 10))) (48 + n % 10), length-map (digits_of 10 (n / 10)) (λ d. 48 + d), length-digits_of-le 10 19 (n / 10) (omega arith) (omega arith))

@@ -7,7 +7,7 @@ use Rattle.timetable.specs.declared.query.Query.{Query}
 use Rattle.numerals.specs.declared.field.Field.{Field}
 use Rattle.numerals.specs.Numbers.{number_at}
 
-abbrev pub number_here : List ℕ → ℕ → Result Field Refusal
+abbrev pub number_here : List ℕ → ℕ → Result (Field ℕ) Refusal
 number_here line at = ok_or (number_at line at) NoNumber
 
 -- a refusal ends the reading
@@ -22,7 +22,7 @@ whole line at x = cond (at == length line) (Ok x) (Err Surplus)
 abbrev pub one_of : List ℕ → Result ℕ Refusal
 one_of line = and_then (number_here line 1) (λ f. whole line f.next f.value)
 
-abbrev pub query_with : Field → Field → Field → Field → Query
+abbrev pub query_with : Field ℕ → Field ℕ → Field ℕ → Field ℕ → Query
 query_with from to minute class = record { from = from.value; to = to.value; minute = minute.value; class = class.value }
 
 abbrev pub query_of : List ℕ → Result Query Refusal

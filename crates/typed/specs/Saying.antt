@@ -32,7 +32,7 @@ pub record Misses (line : List ℕ) : Type 0 where
   pub begins : Begins line letter count
   pub stand : Stand line 1 read at
   pub fewer : length read < count
-  pub none : (f : Field) → Numeral line at f → ⊥
+  pub none : (f : Field ℕ) → Numeral line at f → ⊥
 
 -- as many numbers stand after the letter as are due, and the line goes on
 pub record Exceeds (line : List ℕ) : Type 0 where

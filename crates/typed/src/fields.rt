@@ -1,14 +1,19 @@
 //! The numbers after the letter of a line.
 ghost use Rattle.std.specs.Prelude.{◌≡◌};
-ghost use Rattle.typed.specs.Fields.{number_here, one_of, query_of};
+ghost use Rattle.std.specs.Option.{ok_or};
+ghost use Rattle.timetable.specs.declared.refusal.Refusal.TheVariants.{NoNumber};
+ghost use Rattle.numerals.specs.Numbers.{numeral_at};
+ghost use Rattle.typed.specs.Fields.{one_of, query_of};
 
 use numerals::field::Field;
 use numerals::number::number_field;
+use numerals::unsigned::Unsigned;
 use timetable::query::Query;
 use timetable::refusal::Refusal;
 
-fn number(line: &[u8], at: usize) -> Result<Field, Refusal>
-    ensures { result ≡ number_here line.now at }
+// The number that has to stand from byte `at` of a line on, after a space.
+pub fn number<T: Unsigned>(line: &[u8], at: usize) -> Result<Field<T>, Refusal>
+    ensures { result ≡ ok_or (numeral_at T.of T.MOST_DIGITS T.most line.now at) NoNumber }
 {
     number_field(line, at).ok_or(Refusal::NoNumber)
 }
@@ -16,7 +21,7 @@ fn number(line: &[u8], at: usize) -> Result<Field, Refusal>
 pub(crate) fn one_number(line: &[u8]) -> Result<u16, Refusal>
     ensures { result ≡ one_of line.now }
 {
-    let only = number(line, 1)?;
+    let only = number::<u16>(line, 1)?;
     if only.next != line.len() {
         return Err(Refusal::Surplus);
     }
@@ -26,10 +31,10 @@ pub(crate) fn one_number(line: &[u8]) -> Result<u16, Refusal>
 pub(crate) fn query(line: &[u8]) -> Result<Query, Refusal>
     ensures { result ≡ query_of line.now }
 {
-    let from = number(line, 1)?;
-    let to = number(line, from.next)?;
-    let minute = number(line, to.next)?;
-    let class = number(line, minute.next)?;
+    let from = number::<u16>(line, 1)?;
+    let to = number::<u16>(line, from.next)?;
+    let minute = number::<u16>(line, to.next)?;
+    let class = number::<u16>(line, minute.next)?;
     if class.next != line.len() {
         return Err(Refusal::Surplus);
     }

@@ -1,26 +1,22 @@
 //! One line of an answer, as bytes.
-ghost use Rattle.std.specs.Prelude.{◌≡◌, ℕ, ◌≤◌, length, take};
+ghost use Rattle.std.specs.Prelude.{◌≡◌, ℕ, length};
 ghost use Rattle.typed.specs.Digits.{digits, Spells};
 ghost use Rattle.typed.specs.Lines.{line_of, length_in, written_over};
 
-use crate::pen::put_line;
+use crate::pen::*;
 use crate::text::Text;
 use timetable::refusal::Refusal;
 
-// A letter, six numbers of at most twenty digits, each after a space, and the ending.
-const LONGEST_TEXT: usize = 128;
-
-fn compose(bytes: &mut [u8], text: Text) -> usize
-    requires { length bytes.old ≡ 128 }
-    ensures end { result ≡ length (line_of text) }
-    ensures front { take result bytes.new ≡ line_of text }
-    ensures bound { result ≤ 128 }
+fn compose(text: Text) -> Line
+    ensures { result.items ≡ line_of text }
 {
     match text {
-        Text::Accepted => put_line(bytes, b'K', &[]),
-        Text::Thinned(count) => put_line(bytes, b'T', &[count as u64]),
-        Text::NoWay => put_line(bytes, b'N', &[]),
-        Text::Arrives { arrival, legs } => put_line(bytes, b'A', &[arrival as u64, legs as u64]),
+        Text::Accepted => line_with(b'K', &[]),
+        Text::Thinned(count) => line_with(b'T', &[u64::from(count)]),
+        Text::NoWay => line_with(b'N', &[]),
+        Text::Arrives { arrival, legs } => {
+            line_with(b'A', &[u64::from(arrival), u64::from(legs)])
+        }
         Text::Leg {
             run,
             leg,
@@ -28,20 +24,19 @@ fn compose(bytes: &mut [u8], text: Text) -> usize
             to,
             leaves,
             arrives,
-        } => put_line(
-            bytes,
+        } => line_with(
             b'L',
             &[
-                run as u64,
-                leg as u64,
-                from as u64,
-                to as u64,
-                leaves as u64,
-                arrives as u64,
+                u64::from(run),
+                u64::from(leg),
+                u64::from(from),
+                u64::from(to),
+                u64::from(leaves),
+                u64::from(arrives),
             ],
         ),
-        Text::Refused(number) => put_line(bytes, b'E', &[number as u64]),
-        Text::BadImage { number, byte } => put_line(bytes, b'E', &[number as u64, byte as u64]),
+        Text::Refused(number) => line_with(b'E', &[u64::from(number)]),
+        Text::BadImage { number, byte } => line_with(b'E', &[u64::from(number), byte as u64]),
     }
 }
 
@@ -51,11 +46,12 @@ pub fn write_line(text: Text, line: &mut [u8]) -> Result<usize, Refusal>
     ensures after { line.new ≡ written_over (line_of text) line.old }
     ensures spelled { (n : ℕ) → Spells n (digits n) }
 {
-    let mut bytes = [0u8; LONGEST_TEXT];
-    let len = compose(&mut bytes, text);
+    let composed = compose(text);
+    let bytes = composed.as_slice();
+    let len = bytes.len();
     if len > line.len() {
         return Err(Refusal::ShortBuffer);
     }
-    line[0..len].copy_from_slice(&bytes[0..len]);
+    line[..len].copy_from_slice(bytes);
     Ok(len)
 }

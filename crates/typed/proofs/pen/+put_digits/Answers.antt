@@ -1,27 +1,26 @@
-use Rattle.std.proofs.Common.{◌+◌, ◌/◌, ◌%◌, [], ◌∷◌, ◌++◌, length, take, sym, ap, ◌∙◌, arith}
-use Rattle.std.proofs.lemmas.List.{length_push, append_assoc}
+use Rattle.std.proofs.Common.{◌+◌, ◌/◌, ◌%◌, [], ◌∷◌, ◌++◌, length, sym, ap, ◌∙◌, arith}
+use Rattle.std.proofs.lemmas.List.{append_assoc, length-append}
 use Rattle.typed.specs.Digits.{digits}
-use Rattle.typed.proofs.Spelling.{digits_more}
+use Rattle.typed.proofs.Spelling.{digits-one, digits_more, digits_grow}
 use Rattle.typed.proofs.pen.+put_digits.Goals as goal
+use Rattle.typed.proofs.pen.+put_digits.Goals.{then-number-ge10, else-number-ge10}
 
-pub put_digits-last-requires : goal.put_digits-last-requires
-put_digits-last-requires t c =
-    let n = c.args.number in
-    (omega arith, omega (arith, ap length (digits_more n (omega arith)), length_push (digits (n / 10)) (48 + n % 10)))
+pub put_digits-requires : goal.put_digits-requires
+put_digits-requires t c = (omega arith, omega (arith, digits_grow c.args.number (omega arith)))
 
-pub put-requires-2 : goal.put-requires-2
-put-requires-2 t c =
+pub push-requires : goal.push-requires
+push-requires t c =
     let n = c.args.number in
-    omega (arith, ap length (digits_more n (omega arith)), length_push (digits (n / 10)) (48 + n % 10))
+    elim c.if-number-ge10.branch [
+      then-number-ge10 w ↦ grind (arith, digits_grow n (omega arith), length-append c.args.line.now.items (digits (n / 10)))
+    | else-number-ge10 w ↦ grind (arith, digits-one n (omega arith))
+    ]
 
 pub returns : goal.returns
 returns t c =
     let n = c.args.number in
-    let more = digits_more n (omega arith) in
-    let front = take c.args.at c.args.bytes.now in
-    record {
-      end = omega (arith, ap length more, length_push (digits (n / 10)) (48 + n % 10));
-      front =
-          c.put-2.ensures.front
-          ∙ (ap (λ xs. xs ++ (48 + n % 10) ∷ []) c.put_digits-last.ensures.front ∙ (append_assoc front (digits (n / 10)) ((48 + n % 10) ∷ []) ∙ ap (λ ds. front ++ ds) (sym more)));
-    }
+    let front = c.args.line.now.items in
+    elim c.if-number-ge10.branch [
+      then-number-ge10 w ↦ grind (arith, digits_more n (omega arith), append_assoc front (digits (n / 10)) ((48 + n % 10) ∷ []))
+    | else-number-ge10 w ↦ grind (arith, digits-one n (omega arith))
+    ]
