@@ -8,13 +8,13 @@ use numerals::field::Field;
 use numerals::number::number_field;
 use numerals::time::time_field;
 
-pub(crate) fn number(line: &[u8], at: usize) -> Result<Field, LineFault>
+pub(crate) fn number(line: &[u8], at: usize) -> Result<Field<u16>, LineFault>
     ensures { result ≡ number_here line.now at }
 {
     number_field(line, at).ok_or(LineFault::NoNumber(at))
 }
 
-fn time(line: &[u8], at: usize) -> Result<Field, LineFault>
+fn time(line: &[u8], at: usize) -> Result<Field<u16>, LineFault>
     ensures { result ≡ time_here line.now at }
 {
     time_field(line, at).ok_or(LineFault::NoTime(at))

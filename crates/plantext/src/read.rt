@@ -3,11 +3,10 @@ ghost use Rattle.std.specs.Prelude.{◌≡◌};
 ghost use Rattle.plantext.specs.Lines.{lettered, query_in, leg_of, query_line, leg_line};
 ghost use Rattle.plantext.specs.Saying.{QuerySays, LegSays};
 
-use numerals::number::number_field;
-use numerals::wide::wide_number_field;
 use timetable::call::Call;
 use timetable::query::{Leg, Query};
 use timetable::refusal::Refusal;
+use typed::fields::number;
 use typed::read::read_command;
 
 const LONGEST_LINE: usize = 64;
@@ -47,9 +46,9 @@ fn query_line(line: &[u8]) -> Result<Query, Refusal>
 fn leg_numbers(line: &[u8]) -> Result<Leg, Refusal>
     ensures { result ≡ leg_of line.now }
 {
-    let place = number_field(line, 1).ok_or(Refusal::NoNumber)?;
-    let leaves = wide_number_field(line, place.next).ok_or(Refusal::NoNumber)?;
-    let arrives = wide_number_field(line, leaves.next).ok_or(Refusal::NoNumber)?;
+    let place = number::<u16>(line, 1)?;
+    let leaves = number::<u32>(line, place.next)?;
+    let arrives = number::<u32>(line, leaves.next)?;
     if arrives.next != line.len() {
         return Err(Refusal::Surplus);
     }

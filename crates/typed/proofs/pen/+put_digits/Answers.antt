@@ -1,4 +1,4 @@
-use Rattle.std.proofs.Common.{◌+◌, ◌/◌, ◌%◌, [], ◌∷◌, ◌++◌, length, sym, ap, ◌∙◌, arith}
+use Rattle.std.proofs.Common.{◌+◌, ◌/◌, ◌%◌, [], ◌∷◌, arith}
 use Rattle.std.proofs.lemmas.List.{append_assoc, length-append}
 use Rattle.typed.specs.Digits.{digits}
 use Rattle.typed.proofs.Spelling.{digits-one, digits_more, digits_grow}
@@ -12,8 +12,8 @@ pub push-requires : goal.push-requires
 push-requires t c =
     let n = c.args.number in
     elim c.if-number-ge10.branch [
-      then-number-ge10 w ↦ grind (arith, digits_grow n (omega arith), length-append c.args.line.now.items (digits (n / 10)))
-    | else-number-ge10 w ↦ grind (arith, digits-one n (omega arith))
+      | then-number-ge10 w ↦ grind (arith, digits_grow n (omega arith), length-append c.args.line.now.items (digits (n / 10)))
+      | else-number-ge10 w ↦ grind (arith, digits-one n (omega arith))
     ]
 
 pub returns : goal.returns
@@ -21,6 +21,6 @@ returns t c =
     let n = c.args.number in
     let front = c.args.line.now.items in
     elim c.if-number-ge10.branch [
-      then-number-ge10 w ↦ grind (arith, digits_more n (omega arith), append_assoc front (digits (n / 10)) ((48 + n % 10) ∷ []))
-    | else-number-ge10 w ↦ grind (arith, digits-one n (omega arith))
+      | then-number-ge10 w ↦ grind (arith, digits_more n (omega arith), append_assoc front (digits (n / 10)) ((48 + n % 10) ∷ []))
+      | else-number-ge10 w ↦ grind (arith, digits-one n (omega arith))
     ]

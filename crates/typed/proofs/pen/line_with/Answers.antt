@@ -1,4 +1,4 @@
-use Rattle.std.proofs.Common.{◌≡◌, ℕ, ◌+◌, [], ◌∷◌, ◌++◌, length, get_or, take, sym, ap, ◌∙◌, arith}
+use Rattle.std.proofs.Common.{◌≡◌, ℕ, ◌+◌, [], ◌∷◌, ◌++◌, get_or, take, sym, ap, ◌∙◌, arith}
 use Rattle.std.specs.List.{flat_map}
 use Rattle.std.proofs.lemmas.List.{take_more, length-append, append_assoc, flat_map_more}
 use Rattle.typed.specs.Lines.{spaced}
@@ -19,5 +19,5 @@ loop-number-preserved c =
     ap (flat_map spaced) (take_more ns i 0 (omega arith)) ∙ sym (flat_map_more spaced [] (take i ns) n) in (
       grind (arith, length-append (front ++ 32 ∷ []) (digits n), few_digits n (omega (arith, c.type_inv.numbers i))),
       c.put_digits.ensures ∙ (ap (λ xs. xs ++ digits n) c.push-in-loop-number.ensures.items ∙ (append_assoc front (32 ∷ []) (digits n)
-      ∙ (ap (λ xs. xs ++ spaced n) c.loop-number.invariant.1 ∙ ap (λ xs. c.args.letter ∷ xs) (sym grown)))),
+          ∙ (ap (λ xs. xs ++ spaced n) c.loop-number.invariant.1 ∙ ap (λ xs. c.args.letter ∷ xs) (sym grown)))),
     )
