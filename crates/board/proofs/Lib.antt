@@ -1,5 +1,4 @@
 pub mod Holds
-pub mod Noted
 pub mod Steps
 pub mod Lifted
 pub mod Chains

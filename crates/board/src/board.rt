@@ -42,9 +42,9 @@ impl<B: Book> Board<B> {
         ensures after { state_of B.meaning self.new ≡ after_withhold (state_of B.meaning self.old) run }
         ensures law { CarriesOn (state_of B.meaning self.old) (Withhold run) (Notice result) (state_of B.meaning self.new) }
     {
-        let withheld = self.thinned.below.below.withhold(run);
-        self.thinned.rule.after_notice(withheld.is_ok());
-        withheld
+        self.thinned.below.below.withhold(run)?;
+        self.thinned.rule.erase();
+        Ok(())
     }
 
     // Puts them into force again.
@@ -53,9 +53,9 @@ impl<B: Book> Board<B> {
         ensures after { state_of B.meaning self.new ≡ after_release (state_of B.meaning self.old) run }
         ensures law { CarriesOn (state_of B.meaning self.old) (Release run) (Notice result) (state_of B.meaning self.new) }
     {
-        let released = self.thinned.below.below.release(run);
-        self.thinned.rule.after_notice(released.is_ok());
-        released
+        self.thinned.below.below.release(run)?;
+        self.thinned.rule.erase();
+        Ok(())
     }
 
     // Takes the sailings that touch a quay out of force.
@@ -64,9 +64,9 @@ impl<B: Book> Board<B> {
         ensures after { state_of B.meaning self.new ≡ after_shut (state_of B.meaning self.old) quay }
         ensures law { CarriesOn (state_of B.meaning self.old) (Shut quay) (Notice result) (state_of B.meaning self.new) }
     {
-        let closed = self.thinned.below.shut(quay);
-        self.thinned.rule.after_notice(closed.is_ok());
-        closed
+        self.thinned.below.shut(quay)?;
+        self.thinned.rule.erase();
+        Ok(())
     }
 
     // Puts them into force again.
@@ -75,9 +75,9 @@ impl<B: Book> Board<B> {
         ensures after { state_of B.meaning self.new ≡ after_open (state_of B.meaning self.old) quay }
         ensures law { CarriesOn (state_of B.meaning self.old) (Open quay) (Notice result) (state_of B.meaning self.new) }
     {
-        let reopened = self.thinned.below.open(quay);
-        self.thinned.rule.after_notice(reopened.is_ok());
-        reopened
+        self.thinned.below.open(quay)?;
+        self.thinned.rule.erase();
+        Ok(())
     }
 
     // Marks the dominated sailings of the book in force, and tells how many they are.

@@ -37,14 +37,6 @@ pub fn apply<B: Book, L: Line>(
     }
 }
 
-fn shorter(a: usize, b: usize) -> usize
-    ensures value { result ≡ min a b }
-    ensures first { result ≤ a }
-    ensures second { result ≤ b }
-{
-    if a < b { a } else { b }
-}
-
 // Makes the calls in order on a new board over the opened book, as many as there are rows for their answers, and tells how many.
 pub fn replay_into<B: Book + Drop, L: Line>(
     opened: B,
@@ -59,9 +51,9 @@ pub fn replay_into<B: Book + Drop, L: Line>(
     ensures rest { drop result answers.new ≡ drop result answers.old }
 {
     let mut board = Board::new(opened);
-    let count = shorter(calls.len(), answers.len());
-    for i in 0..count {
-        answers[i] = apply(&mut board, line, labels, legs, calls[i]);
+    let count = calls.len().min(answers.len());
+    for (i, call) in calls[..count].iter().enumerate() {
+        answers[i] = apply(&mut board, line, labels, legs, *call);
     }
     count
 }
@@ -77,10 +69,7 @@ pub fn replay<B: Book + Drop, L: Line>(
 ) -> Result<Vec<Answer>, AllocError>
     ensures { IfOk result (λ v. Replayed (B.meaning opened) calls.now v.items (lent (L.keys line.old) labels.old legs.old) (lent (L.keys line.new) labels.new legs.new)) }
 {
-    let mut board = Board::new(opened);
-    let mut answers = Vec::new(heap);
-    for call in calls {
-        answers.push(apply(&mut board, line, labels, legs, *call))?;
-    }
+    let mut answers = vec![in heap; Answer::Count(0); calls.len()]?;
+    replay_into(opened, line, labels, legs, calls, answers.as_mut_slice());
     Ok(answers)
 }

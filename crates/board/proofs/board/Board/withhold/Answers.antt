@@ -1,14 +1,11 @@
-use Rattle.std.proofs.Common.{[], ◌∷◌, ◌++◌, refl, ap, arith}
-use Rattle.board.specs.States.{on_withhold}
+use Rattle.std.proofs.Common.{arith}
+use Rattle.std.proofs.lemmas.Grind.{common_steps}
 use Rattle.board.specs.Boards.{state_of}
-use Rattle.board.proofs.Noted.{runs_noted}
 use Rattle.board.proofs.Steps.{withhold_carries}
 use Rattle.board.proofs.board.Board.withhold.Goals as goal
 
-pub returns : goal.returns
-returns g c =
-    let s = state_of g.B.Book.meaning c.args.self.now in
-    let done = c.withhold-withheld.ensures in
-    let after = runs_noted s _ (on_withhold s c.args.run) c.withhold-withheld.result _ done.answer c.is_ok.ensures.value (ap g.B.Book.meaning done.below) c.after_notice.ensures
-    (s.runs ++ (c.args.run ∷ [])) done.after refl in
-    record { answer = done.answer; after = after; law = withhold_carries s _ c.withhold-withheld.result c.args.run (omega arith) done.answer after }
+pub returns-in_err-withhold-clause-law : goal.returns-in_err-withhold-clause-law
+returns-in_err-withhold-clause-law g c = withhold_carries (state_of g.B.Book.meaning c.args.self.now) _ _ c.args.run (omega arith) (grind (arith, common_steps)) (grind (arith, common_steps))
+
+pub returns-clause-law : goal.returns-clause-law
+returns-clause-law g c = withhold_carries (state_of g.B.Book.meaning c.args.self.now) _ _ c.args.run (omega arith) (grind (arith, common_steps)) (grind (arith, common_steps))
