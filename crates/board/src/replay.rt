@@ -52,6 +52,7 @@ pub fn replay_into<B: Book + Drop, L: Line>(
 {
     let mut board = Board::new(opened);
     let count = calls.len().min(answers.len());
+    // the row by its number: of rows that an adapter of `iter_mut` lends, a proof knows nothing afterwards
     for (i, call) in calls[..count].iter().enumerate() {
         answers[i] = apply(&mut board, line, labels, legs, *call);
     }
