@@ -53,9 +53,7 @@ pub(crate) fn draw_calls(
     mix: Mix,
     count: u16,
 ) -> Result<Vec<Call>, AllocError> {
-    let mut calls = Vec::new(heap);
-    for _ in 0..count {
-        calls.push(draw_call(lots, scale, mix))?;
-    }
-    Ok(calls)
+    (0..count)
+        .map(|_| draw_call(lots, scale, mix))
+        .collect(heap)
 }

@@ -3,6 +3,7 @@
 
 mod asking;
 mod draft;
+mod force;
 mod lots;
 mod outcome;
 mod plain;
@@ -26,31 +27,7 @@ use std::process::ExitCode;
 
 const SEED: u64 = 1872;
 
-// Draws the calls, replays them, and makes them again one at a time.
-fn drill_book(
-    heap: Global,
-    lots: &mut Lots,
-    number: u16,
-    scale: Scale,
-    book: Printed,
-    plain: &mut Plain,
-    tally: &mut Tally,
-) -> anyhow::Result<()> {
-    let calls = draw_calls(heap, lots, scale, mix_for(number), CALLS)?;
-    let rows = rows_for(number, usize::from(scale.sailings));
-    let answers = replay_all(heap, book, rows, calls.as_slice())?;
-    let mut lent = Lent::new(heap, rows)?;
-    step_through(
-        &mut lent,
-        book,
-        plain,
-        rows,
-        calls.as_slice(),
-        answers.as_slice(),
-        tally,
-    )
-}
-
+// Draws a book and calls on it, replays them, and makes them again one at a time.
 fn drill_board(
     heap: Global,
     lots: &mut Lots,
@@ -60,18 +37,22 @@ fn drill_board(
     let scale = scale_for(lots, number);
     let draft = draw_book(heap, lots, scale)?;
     let image = bind_book(heap, &draft)?;
-    let mut plain = Plain::new(heap, draft.quays.as_slice(), draft.sailings.as_slice());
     let book = Printed::open(image.as_slice());
-    drill_book(heap, lots, number, scale, book, &mut plain, tally)
+    let calls = draw_calls(heap, lots, scale, mix_for(number), CALLS)?;
+    let rows = rows_for(number, usize::from(scale.sailings));
+    let answers = replay_all(heap, book, rows, calls.as_slice())?;
+    let plain = Plain::new(heap, &draft, rows);
+    let mut stepper = Stepper::new(heap, book, plain, rows)?;
+    stepper.step_through(calls.as_slice(), answers.as_slice(), tally)
 }
 
 fn run(rt: &HostRuntime) -> anyhow::Result<()> {
     let mut lots = Lots::new(SEED);
     let mut tally = Tally::new();
     for number in 0..BOARDS {
-        if let Err(error) = drill_board(rt.alloc(), &mut lots, number, &mut tally) {
-            return Err(anyhow!(format!(in rt.alloc(); "board {number}, {error}")?));
-        }
+        drill_board(rt.alloc(), &mut lots, number, &mut tally).map_err(|error| anyhow!(
+            "board {number}, {error}"
+        ))?;
     }
     tally.print(rt)?;
     Ok(())

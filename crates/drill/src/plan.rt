@@ -68,10 +68,10 @@ pub(crate) fn scale_for(lots: &mut Lots, number: u16) -> Scale {
 pub(crate) fn rows_for(number: u16, places: usize) -> Rows {
     let short = places.saturating_sub(1);
     let enough = places.saturating_add(usize::from(number % 3));
-    let pick = number % 20;
+    let short_on = |pick| if number % 20 == pick { short } else { enough };
     Rows {
-        labels: if pick == 12 { short } else { enough },
-        legs: if pick == 15 { short } else { enough },
-        items: u16::try_from(if pick == 17 { short } else { enough }).unwrap_or(0),
+        labels: short_on(12),
+        legs: short_on(15),
+        items: u16::try_from(short_on(17)).unwrap_or(0),
     }
 }

@@ -1,6 +1,7 @@
 //! How many calls of each kind were compared.
-use crate::outcome::Outcome;
+use board::calls::Answer;
 use std::io;
+use timetable::refusal::Refusal;
 
 #[derive(Drop)]
 pub(crate) struct Tally {
@@ -13,6 +14,7 @@ pub(crate) struct Tally {
     none: u32,
     legs: u32,
     longest: u16,
+    // by the number of the refusal
     refused: [u32; 64],
 }
 
@@ -40,37 +42,32 @@ impl Tally {
         add(&mut self.boards, 1);
     }
 
-    fn count_refusal(&mut self, number: u8) {
-        if let Some(count) = self.refused.get_mut(usize::from(number)) {
+    fn count_refusal(&mut self, refusal: Refusal) {
+        if let Some(count) = self.refused.get_mut(usize::from(refusal.number())) {
             add(count, 1);
         }
     }
 
-    pub(crate) fn count(&mut self, outcome: Outcome, legs: u16) {
-        match outcome {
-            Outcome::Accepted => add(&mut self.notices, 1),
-            Outcome::NoticeRefused(number) => {
-                add(&mut self.notices, 1);
-                self.count_refusal(number);
-            }
-            Outcome::Thinned(marked) => {
+    pub(crate) fn count(&mut self, answer: Answer) {
+        match answer {
+            Answer::Notice(_) => add(&mut self.notices, 1),
+            Answer::Count(marked) => {
                 add(&mut self.thins, 1);
                 add(&mut self.marked, marked);
             }
-            Outcome::RouteRefused(number) => {
-                add(&mut self.routes, 1);
-                self.count_refusal(number);
+            Answer::Told(_) => add(&mut self.routes, 1),
+        }
+        match answer {
+            Answer::Notice(Err(refusal)) | Answer::Told(Err(refusal)) => {
+                self.count_refusal(refusal);
             }
-            Outcome::Unreachable => {
-                add(&mut self.routes, 1);
-                add(&mut self.none, 1);
-            }
-            Outcome::Arrival(_) => {
-                add(&mut self.routes, 1);
+            Answer::Told(Ok(None)) => add(&mut self.none, 1),
+            Answer::Told(Ok(Some(found))) => {
                 add(&mut self.journeys, 1);
-                add(&mut self.legs, legs);
-                self.longest = self.longest.max(legs);
+                add(&mut self.legs, found.legs);
+                self.longest = self.longest.max(found.legs);
             }
+            Answer::Notice(Ok(())) | Answer::Count(_) => {}
         }
     }
 

@@ -1,4 +1,4 @@
-//! The minutes of sailings, worked out anew.
+//! The minutes of sailings, worked out anew: what is drilled is not asked.
 use timetable::sailing::Sailing;
 
 // The minute at which a sailing that is taken at `minute` or later first arrives.

@@ -13,28 +13,13 @@ pub(crate) fn blank_leg(i: usize) -> Leg {
     }
 }
 
-fn is_same(a: Leg, b: Leg) -> bool {
-    a.place == b.place && a.leaves == b.leaves && a.arrives == b.arrives
-}
-
 pub(crate) fn all_blank(legs: &[Leg], i: usize) -> bool {
-    for leg in legs {
-        if !is_same(*leg, blank_leg(i)) {
-            return false;
-        }
-    }
-    true
+    legs.iter().all(|leg| *leg == blank_leg(i))
 }
 
 // How often the legs take a place.
 fn times_taken(legs: &[Leg], place: u16) -> usize {
-    let mut times = 0usize;
-    for leg in legs {
-        if leg.place == place {
-            times = times.saturating_add(1);
-        }
-    }
-    times
+    legs.iter().filter(|leg| leg.place == place).count()
 }
 
 // Whether a leg is this sailing on some day, and leaves at `ready` or later.
@@ -53,10 +38,9 @@ pub(crate) fn is_journey(plain: &Plain, query: Query, legs: &[Leg], arrives: u32
         let Some(s) = plain.open_to_routes(leg.place) else {
             return false;
         };
-        let ready = match last {
-            Some(before) => plain.ready(before, minute, s, query.class),
-            None => minute,
-        };
+        let ready = last.map_or(minute, |before| {
+            plain.changes.ready(before, minute, s, query.class)
+        });
         if s.from != quay || !is_ride(*leg, s, ready) || times_taken(legs, leg.place) != 1 {
             return false;
         }
