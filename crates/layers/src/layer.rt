@@ -14,6 +14,12 @@ use timetable::span::Span;
 pub trait Rule {
     ghost picks: { Self → ℕ → Sailing → Bool };
 
+    ghost is_none: { Self → Type 0 };
+
+    // The rule of a layer before any notice.
+    fn none() -> Self
+        ensures { is_none result };
+
     fn hides(&self, place: u16, s: Sailing) -> bool
         ensures { result ≡ picks self.now place s };
 }
@@ -22,6 +28,18 @@ pub trait Rule {
 pub struct Layer<B, R> {
     pub below: B,
     pub rule: R,
+}
+
+impl<B: Book, R: Rule> Layer<B, R> {
+    pub fn new(below: B) -> Self
+        ensures below { result.below ≡ below }
+        ensures none { R.Rule.is_none result.rule }
+    {
+        Layer {
+            below,
+            rule: R::none(),
+        }
+    }
 }
 
 impl<B: Book, R: Rule> Book for Layer<B, R> {

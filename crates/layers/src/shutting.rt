@@ -19,7 +19,15 @@ pub struct Quays {
 }
 
 impl Rule for Quays {
+    ghost is_none = { λ r. kept r.quays ≡ [] };
+
     ghost picks = { λ r. touches_shut (kept r.quays) };
+
+    fn none() -> Self {
+        Quays {
+            quays: Numbers::new(),
+        }
+    }
 
     fn hides(&self, _place: u16, s: Sailing) -> bool {
         self.quays.holds(s.from) || self.quays.holds(s.to)
@@ -29,18 +37,6 @@ impl Rule for Quays {
 pub type Shutting<B> = Layer<B, Quays>;
 
 impl<B: Book> Layer<B, Quays> {
-    pub fn new(below: B) -> Self
-        ensures below { result.below ≡ below }
-        ensures none { kept result.rule.quays ≡ [] }
-    {
-        Layer {
-            below,
-            rule: Quays {
-                quays: Numbers::new(),
-            },
-        }
-    }
-
     // Takes the sailings that touch a quay out of force.
     pub fn shut(&mut self, quay: u16) -> Result<(), Refusal>
         ensures answer { result ≡ shut_answer (nat_lt quay (length (B.Book.meaning self.old.below).changes)) (has quay (kept self.old.rule.quays)) (length (kept self.old.rule.quays)) }

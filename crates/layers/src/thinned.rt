@@ -10,7 +10,13 @@ use timetable::book::Book;
 use timetable::sailing::Sailing;
 
 impl Rule for Marks {
+    ghost is_none = { λ r. r.at ≡ replicate 3072 false };
+
     ghost picks = { λ r. marked r.at };
+
+    fn none() -> Self {
+        Marks::new()
+    }
 
     fn hides(&self, place: u16, _s: Sailing) -> bool {
         self.holds(place)
@@ -20,16 +26,6 @@ impl Rule for Marks {
 pub type Thinned<B> = Layer<B, Marks>;
 
 impl<B: Book> Layer<B, Marks> {
-    pub fn new(below: B) -> Self
-        ensures below { result.below ≡ below }
-        ensures none { result.rule.at ≡ replicate 3072 false }
-    {
-        Layer {
-            below,
-            rule: Marks::new(),
-        }
-    }
-
     // Marks the dominated sailings of the book below, and tells how many they are.
     pub fn thin(&mut self) -> u16
         ensures exact { (p : ℕ) → slice_index_or self.new.rule.at p false ≡ mark_of (B.Book.meaning self.old.below) p }

@@ -19,7 +19,15 @@ pub struct Runs {
 }
 
 impl Rule for Runs {
+    ghost is_none = { λ r. kept r.runs ≡ [] };
+
     ghost picks = { λ r. of_withheld (kept r.runs) };
+
+    fn none() -> Self {
+        Runs {
+            runs: Numbers::new(),
+        }
+    }
 
     fn hides(&self, _place: u16, s: Sailing) -> bool {
         self.runs.holds(s.run)
@@ -29,18 +37,6 @@ impl Rule for Runs {
 pub type Withholding<B> = Layer<B, Runs>;
 
 impl<B: Book> Layer<B, Runs> {
-    pub fn new(below: B) -> Self
-        ensures below { result.below ≡ below }
-        ensures none { kept result.rule.runs ≡ [] }
-    {
-        Layer {
-            below,
-            rule: Runs {
-                runs: Numbers::new(),
-            },
-        }
-    }
-
     // Takes the sailings of a run out of force.
     pub fn withhold(&mut self, run: u16) -> Result<(), Refusal>
         ensures answer { result ≡ withhold_answer (has run (kept self.old.rule.runs)) (length (kept self.old.rule.runs)) }
