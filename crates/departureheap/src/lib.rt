@@ -3,4 +3,3 @@
 
 pub mod departure;
 pub mod departure_heap;
-pub mod heap_calls;

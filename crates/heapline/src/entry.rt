@@ -1,6 +1,6 @@
 ghost use Rattle.std.specs.Prelude.{◌+◌, ◌*◌};
 
-use heap::ranked::Ranked;
+use heap::ranked::{Ranked, rank_by};
 
 // An item that waits with a key.
 #[derive(Clone, Copy)]
@@ -14,6 +14,6 @@ impl Ranked for Waiting {
     ghost rank_of = { λ w. w.key * 65536 + w.item };
 
     fn rank(&self) -> u64 {
-        self.key as u64 * 65536 + self.item as u64
+        rank_by(self.key, self.item)
     }
 }

@@ -1,2 +1,3 @@
 pub mod Finds
+pub mod Idle
 pub mod Lawful

@@ -4,9 +4,9 @@ ghost use Rattle.queue.specs.Lines.{most_items, idle};
 ghost use Rattle.queue.specs.Firsts.{better_of, FirstOf};
 ghost use Rattle.queue.specs.Tables.{size_for, waiting, table_few};
 
+use crate::keys::idle_keys;
 use crate::line::Line;
 use crate::table::Table;
-use arrayvec::ArrayVec;
 use timetable::refusal::Refusal;
 
 impl Table {
@@ -14,9 +14,9 @@ impl Table {
     pub fn new(size: u16) -> Table
         ensures { waiting result ≡ idle (size_for size) }
     {
-        let mut keys = ArrayVec::from([None; 3072]);
-        keys.truncate(usize::from(size));
-        Table { keys }
+        Table {
+            keys: idle_keys(size),
+        }
     }
 }
 

@@ -1,9 +1,6 @@
-use Rattle.std.proofs.Common.{arith}
-use Rattle.heapline.specs.Lines.{line_size}
+use Rattle.std.proofs.Common.{ap, length, ◌∙◌}
 use Rattle.heapline.proofs.Turns as turns
 use Rattle.heapline.proofs.heaped.HeapLineLine.clear.Goals as goal
 
 pub returns : goal.returns
-returns c =
-    let h = c.args.self.now in
-    turns.all_idle h.size _ c.forget.new.keys c.forget.ensures.keys (omega (arith, h.few, h.long, c.forget.auto.keys)) (line_size h)
+returns c = turns.all_idle c.args.self.now.keys.items c.erase_keys.new.keys c.erase_keys.ensures (c.erase_keys.auto.keys ∙ ap length c.deref_mut.ensures.value)

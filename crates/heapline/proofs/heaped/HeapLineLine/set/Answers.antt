@@ -1,34 +1,29 @@
-use Rattle.std.proofs.Common.{Some, sym, ◌∙◌, arith}
+use Rattle.std.proofs.Common.{Some, Ok, Err, sym, ◌∙◌, subst, take, ap, length, arith}
 use Rattle.std.proofs.lemmas.List.{length-set}
+use Rattle.heapline.specs.Lines.{Places}
+use Rattle.heapline.specs.Tallies.{Tallies}
 use Rattle.heapline.proofs.Turns as turns
 use Rattle.heapline.proofs.heaped.HeapLineLine.set.Goals as goal
 
-pub returns-then-item-self : goal.returns-then-item-self
-returns-then-item-self c =
-    let h = c.args.self.now in
-    turns.answers_outside h.size h.keys c.args.item c.args.key (omega (arith, h.few, h.long)) (omega (arith, c.if-item-self.true))
-
 -- the heap refuses nothing that the line puts into it
-pub invariant_of-self : goal.invariant_of-self
-invariant_of-self c = absurd (turns.never_refused c.args.self.now c.args.item c.args.key (omega (arith, c.if-item-self.false)) _ _ _ c.in_err-place.ensures)
-
 pub returns-in_err-place : goal.returns-in_err-place
-returns-in_err-place c = absurd (turns.never_refused c.args.self.now c.args.item c.args.key (omega (arith, c.if-item-self.false)) _ _ _ c.in_err-place.ensures)
+returns-in_err-place c =
+    let h = c.args.self.now in
+    let ks = h.keys.items in
+    let w = c.place.new.waiting in
+    let was = turns.read ks c.deref.result.now c.args.item c.from.result c.deref.ensures.0 c.from.ensures in
+    absurd (turns.never_refused h c.args.item c.args.key (omega (arith, c.if-item-size.false, c.size.ensures)) w.store w.count _
+    (subst (λ b. Places h.waiting.store h.waiting.count b (record { key = c.args.key; item = c.args.item }) w.store w.count (Err c.in_err-place.field-0.0)) was c.in_err-place.ensures.placed))
 
 pub invariant_of-self-2 : goal.invariant_of-self-2
 invariant_of-self-2 c =
     let h = c.args.self.now in
+    let ks = h.keys.items in
     let w = c.place.new.waiting in
-    let (t, long) = turns.placed h c.args.item c.args.key (omega (arith, c.if-item-self.false)) w.rows w.count _ c.in_ok-place.ensures in record {
-      few = h.few;
-      long = length-set h.keys c.args.item (Some c.args.key) ∙ h.long;
-      inside = turns.inside_set h.size h.keys c.args.item (Some c.args.key) (omega (arith, c.if-item-self.false)) h.inside;
-      single = t.single;
-      tied = t.tied;
-      counted = sym long ∙ t.counted;
+    let was = turns.read ks c.deref.result.now c.args.item c.from.result c.deref.ensures.0 c.from.ensures in
+    let is = turns.written ks c.deref_mut.result.now c.args.item c.from-2.result (Some c.args.key) c.deref_mut.ensures.value c.from-2.ensures in record {
+      few = omega (arith, ap length is, length-set ks c.args.item (Some c.args.key), h.few);
+      roomy = c.place.ensures.size ∙ h.roomy;
+      tallied = subst (λ k. Tallies (take w.count w.store) k) (sym is) (turns.placed h c.args.item c.args.key (omega (arith, c.if-item-size.false, c.size.ensures)) w.store w.count c.in_ok-place.field-0
+          (subst (λ b. Places h.waiting.store h.waiting.count b (record { key = c.args.key; item = c.args.item }) w.store w.count (Ok c.in_ok-place.field-0)) was c.in_ok-place.ensures.placed));
     }
-
-pub returns : goal.returns
-returns c =
-    let h = c.args.self.now in
-    turns.answers_inside h.size h.keys c.args.item c.args.key (omega (arith, h.few, h.long)) (omega (arith, c.if-item-self.false))
