@@ -70,14 +70,9 @@ fn leg_text(sailing: Sailing, leg: Leg) -> Text
 
 pub(crate) fn print_text(rt: &HostRuntime, text: Text) -> anyhow::Result<()> {
     let mut line = [0u8; LONGEST_LINE];
-    match write_line(text, &mut line) {
-        Ok(len) => {
-            let (front, _) = line.split_at(len);
-            rt.stdout().write_all(front)?;
-            Ok(())
-        }
-        Err(_) => Err(anyhow!("a line of an answer is too long")),
-    }
+    let len = write_line(text, &mut line).map_err(|_| anyhow!("a line of an answer is too long"))?;
+    rt.stdout().write_all(&line[..len])?;
+    Ok(())
 }
 
 // Prints an answer: its line, and after that of a journey a line for each leg, read from the book.

@@ -23,17 +23,9 @@ pub(crate) fn serve<B: Book + Drop>(rt: &HostRuntime, book: B) -> anyhow::Result
     let mut legs = vec![in rt.alloc(); blank_leg; MOST_PLACES as usize]?;
     let mut waiting = Table::new(MOST_PLACES);
     let mut board = Board::new(book);
-    let mut input = BufReader::new(rt.alloc(), rt.stdin())?;
-    let mut line: Vec<u8> = Vec::new(rt.alloc());
-    for _ in 0..u64::MAX {
-        line.clear();
-        if input.read_until(b'\n', &mut line)? == 0 {
-            break;
-        }
-        if line.last() == Some(&b'\n') {
-            let _ = line.pop();
-        }
-        match read_command(line.as_slice()) {
+    let lines = BufReader::new(rt.alloc(), rt.stdin())?.split(rt.alloc(), b'\n');
+    for line in lines {
+        match read_command(line?.as_slice()) {
             Ok(call) => {
                 let answer = apply(
                     &mut board,

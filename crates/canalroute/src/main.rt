@@ -6,7 +6,7 @@ mod desk;
 
 use crate::answers::print_text;
 use crate::desk::serve;
-use anyhow::anyhow;
+use anyhow::Context;
 use books::clock_face::ClockFace;
 use books::printed::Printed;
 use image::check::check_image;
@@ -15,15 +15,8 @@ use std::fs;
 use std::process::ExitCode;
 use typed::text::Text;
 
-fn read_book(rt: &HostRuntime) -> anyhow::Result<Vec<u8>> {
-    match fs::read(rt, "book.img") {
-        Ok(image) => Ok(image),
-        Err(error) => Err(anyhow!(format!(in rt.alloc(); "book.img: {error}")?)),
-    }
-}
-
 fn run(rt: &HostRuntime) -> anyhow::Result<()> {
-    let image = read_book(rt)?;
+    let image = fs::read(rt, "book.img").context("book.img")?;
     let bytes = image.as_slice();
     match check_image(bytes) {
         Ok(Kind::Printed) => serve(rt, Printed::open(bytes)),
@@ -43,7 +36,7 @@ fn main(rt: HostRuntime) -> ExitCode {
         Ok(()) => ExitCode::SUCCESS,
         Err(error) => {
             // where this cannot be written either, the status alone tells
-            let _ = eprintln!(rt; "canalroute: {error}");
+            let _ = eprintln!(rt; "canalroute: {error:#}");
             ExitCode::FAILURE
         }
     }
