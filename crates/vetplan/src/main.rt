@@ -4,7 +4,7 @@
 mod desk;
 
 use crate::desk::serve;
-use anyhow::anyhow;
+use anyhow::Context;
 use books::clock_face::ClockFace;
 use books::printed::Printed;
 use image::check::check_image;
@@ -12,15 +12,8 @@ use image::fault::Kind;
 use std::fs;
 use std::process::ExitCode;
 
-fn read_book(rt: &HostRuntime) -> anyhow::Result<Vec<u8>> {
-    match fs::read(rt, "book.img") {
-        Ok(image) => Ok(image),
-        Err(error) => Err(anyhow!(format!(in rt.alloc(); "book.img: {error}")?)),
-    }
-}
-
 fn run(rt: &HostRuntime) -> anyhow::Result<()> {
-    let image = read_book(rt)?;
+    let image = fs::read(rt, "book.img").context("book.img")?;
     let bytes = image.as_slice();
     match check_image(bytes) {
         Ok(Kind::Printed) => serve(rt, Printed::open(bytes)),
@@ -38,7 +31,7 @@ fn main(rt: HostRuntime) -> ExitCode {
         Ok(()) => ExitCode::SUCCESS,
         Err(error) => {
             // where this cannot be written either, the status alone tells
-            let _ = eprintln!(rt; "vetplan: {error}");
+            let _ = eprintln!(rt; "vetplan: {error:#}");
             ExitCode::FAILURE
         }
     }
