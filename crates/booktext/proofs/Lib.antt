@@ -1,4 +1,3 @@
-pub mod Names
 pub mod Quaylines
 pub mod Sailinglines
 pub mod Sayings

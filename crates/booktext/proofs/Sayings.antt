@@ -1,5 +1,5 @@
 -- The answer tells what a line says. Assumes nothing.
-use Rattle.std.proofs.Common.{◌≡◌, ℕ, ◌<◌, Bool, true, false, cond, ◌||◌, eqb, ◌⊎◌, List, [], ◌∷◌, length, get_or, take, Ok, Err, codes, Result, sym, ap, ◌∙◌, inl, inr, ⊎_elim, arith}
+use Rattle.std.proofs.Common.{◌≡◌, ℕ, ◌<◌, Bool, true, false, cond, ◌||◌, eqb, ◌⊎◌, List, [], ◌∷◌, length, get_or, take, Some, None, Ok, Err, codes, Option, Result, sym, ap, ◌∙◌, inl, inr, ⊎_elim, arith}
 use Rattle.std.specs.Result.{result_map_both}
 use Rattle.std.proofs.lemmas.Slice.Eq.{bytes_eq-Decides}
 use Rattle.std.proofs.lemmas.List.{get_or-take, nil_from_length}
@@ -7,7 +7,7 @@ use Rattle.std.proofs.lemmas.Bool.{cases_Bool, or_cases, or_from, or_left, or_ri
 use Rattle.timetable.specs.declared.sailing.Sailing.{Sailing}
 use Rattle.image.specs.declared.quay.Quay.{Quay}
 use Rattle.booktext.specs.declared.entry.Entry.{Entry}
-use Rattle.booktext.specs.declared.entry.Entry.TheVariants.{Nothing, Quay as OfQuay, Sailing as OfSailing}
+use Rattle.booktext.specs.declared.entry.Entry.TheVariants.{Quay as OfQuay, Sailing as OfSailing}
 use Rattle.booktext.specs.declared.entry.LineFault.{LineFault}
 use Rattle.booktext.specs.declared.entry.LineFault.TheVariants.{NoWord}
 use Rattle.booktext.specs.Quays.{quay_of, QuayLine}
@@ -38,8 +38,14 @@ spoken : (line : List ℕ) (b : ℕ) → get_or line 0 0 ≡ b → 35 < b → hu
 spoken [] b e l = absurd (omega arith)
 spoken (x ∷ xs) b e l = or_from (eqb (length (x ∷ xs)) 0) (eqb x 35) (ne_eqb (length (x ∷ xs)) 0 (λ z. omega arith)) (ne_eqb x 35 (λ z. omega arith))
 
+begins_from : (word line : List ℕ) → take (length word) line ≡ word → begins word line ≡ true
+begins_from word line e = (bytes_eq-Decides word (take (length word) line)).1 (sym e)
+
+from_begins : (word line : List ℕ) → begins word line ≡ true → take (length word) line ≡ word
+from_begins word line t = sym ((bytes_eq-Decides word (take (length word) line)).0 t)
+
 not_begins : (word line : List ℕ) → (take (length word) line ≡ word → ⊥) → begins word line ≡ false
-not_begins word line f = ⊎_elim (λ t. absurd (f ((bytes_eq-Decides (take (length word) line) word).0 t))) (λ t. t) (cases_Bool (begins word line))
+not_begins word line f = ⊎_elim (λ t. absurd (f (from_begins word line t))) (λ t. t) (cases_Bool (begins word line))
 
 abbrev quay-answer : List ℕ → Result Entry LineFault
 quay-answer line = result_map_both OfQuay (λ e. e) (quay_of line)
@@ -50,45 +56,56 @@ sailing-answer line = result_map_both OfSailing (λ e. e) (sailing_of line)
 abbrev no_quay : List ℕ → Result Entry LineFault
 no_quay line = cond (begins (codes "sailing") line) (sailing-answer line) (Err NoWord)
 
+-- an answer of a line that says something
+abbrev told : Result Entry LineFault → Result (Option Entry) LineFault
+told r = result_map_both Some (λ e. e) r
+
 apart : (line : List ℕ) → take 4 line ≡ codes "quay" → take 7 line ≡ codes "sailing" → ⊥
 apart line v w = omega (arith, first_byte line (codes "quay") 4 (omega arith) v, first_byte line (codes "sailing") 7 (omega arith) w)
 
-quay_read : (line : List ℕ) → hushed line ≡ false → take 4 line ≡ codes "quay" → line_of line ≡ quay-answer line
-quay_read line h w =
-    cond-false (hushed line) (Ok Nothing) (worded line) h ∙ cond-true (begins (codes "quay") line) (quay-answer line) (no_quay line) ((bytes_eq-Decides (take 4 line) (codes "quay")).1 w)
+quay_worded : (line : List ℕ) → take 4 line ≡ codes "quay" → worded line ≡ quay-answer line
+quay_worded line w = cond-true (begins (codes "quay") line) (quay-answer line) (no_quay line) (begins_from (codes "quay") line w)
 
-sailing_read : (line : List ℕ) → hushed line ≡ false → take 7 line ≡ codes "sailing" → line_of line ≡ sailing-answer line
-sailing_read line h w =
-    cond-false (hushed line) (Ok Nothing) (worded line) h
-    ∙ (cond-false (begins (codes "quay") line) (quay-answer line) (no_quay line) (not_begins (codes "quay") line (λ v. apart line v w))
-    ∙ cond-true (begins (codes "sailing") line) (sailing-answer line) (Err NoWord) ((bytes_eq-Decides (take 7 line) (codes "sailing")).1 w))
+sailing_worded : (line : List ℕ) → take 7 line ≡ codes "sailing" → worded line ≡ sailing-answer line
+sailing_worded line w =
+    cond-false (begins (codes "quay") line) (quay-answer line) (no_quay line) (not_begins (codes "quay") line (λ v. apart line v w))
+    ∙ cond-true (begins (codes "sailing") line) (sailing-answer line) (Err NoWord) (begins_from (codes "sailing") line w)
 
--- the four ways that a line is read
-abbrev Way : List ℕ → Type 0
-Way line =
-    ((hushed line ≡ true) × (line_of line ≡ Ok Nothing))
-    ⊎ (((take 4 line ≡ codes "quay") × (line_of line ≡ quay-answer line)) ⊎ (((take 7 line ≡ codes "sailing") × (line_of line ≡ sailing-answer line)) ⊎ (line_of line ≡ Err NoWord)))
+-- the three ways that a line with words is read
+abbrev Wording : List ℕ → Type 0
+Wording line =
+    ((take 4 line ≡ codes "quay") × (worded line ≡ quay-answer line)) ⊎ (((take 7 line ≡ codes "sailing") × (worded line ≡ sailing-answer line)) ⊎ (worded line ≡ Err NoWord))
 
-way : (line : List ℕ) → Way line
-way line = ⊎_elim (λ t. inl (t, cond-true (hushed line) (Ok Nothing) (worded line) t)) (λ t. inr (speaks t)) (cases_Bool (hushed line))
+wording : (line : List ℕ) → Wording line
+wording line = ⊎_elim (λ q. let w = from_begins (codes "quay") line q in inl (w, quay_worded line w)) (λ q. inr (sails q)) (cases_Bool (begins (codes "quay") line))
   where
-    speaks : hushed line ≡ false → ((take 4 line ≡ codes "quay") × (line_of line ≡ quay-answer line)) ⊎ (((take 7 line ≡ codes "sailing") × (line_of line ≡ sailing-answer line)) ⊎ (line_of line ≡ Err NoWord))
-    speaks t = ⊎_elim (λ q. let w = (bytes_eq-Decides (take 4 line) (codes "quay")).0 q in inl (w, quay_read line t w)) (λ q. inr (sails t q)) (cases_Bool (begins (codes "quay") line))
-      where
-        sails : hushed line ≡ false → begins (codes "quay") line ≡ false → ((take 7 line ≡ codes "sailing") × (line_of line ≡ sailing-answer line)) ⊎ (line_of line ≡ Err NoWord)
-        sails t q =
-            ⊎_elim (λ s. let w = (bytes_eq-Decides (take 7 line) (codes "sailing")).0 s in inl (w, sailing_read line t w))
-            (λ s. inr (cond-false (hushed line) (Ok Nothing) (worded line) t ∙ (cond-false (begins (codes "quay") line) (quay-answer line) (no_quay line) q ∙ cond-false (begins (codes "sailing") line) (sailing-answer line) (Err NoWord) s)))
-            (cases_Bool (begins (codes "sailing") line))
+    sails : begins (codes "quay") line ≡ false → ((take 7 line ≡ codes "sailing") × (worded line ≡ sailing-answer line)) ⊎ (worded line ≡ Err NoWord)
+    sails q =
+        ⊎_elim (λ s. let w = from_begins (codes "sailing") line s in inl (w, sailing_worded line w))
+        (λ s. inr (cond-false (begins (codes "quay") line) (quay-answer line) (no_quay line) q ∙ cond-false (begins (codes "sailing") line) (sailing-answer line) (Err NoWord) s))
+        (cases_Bool (begins (codes "sailing") line))
+
+-- a line says nothing, or it is read by its words
+way : (line : List ℕ) → ((hushed line ≡ true) × (line_of line ≡ Ok None)) ⊎ (line_of line ≡ told (worded line))
+way line =
+    ⊎_elim (λ t. inl (t, cond-true (hushed line) (Ok None) (told (worded line)) t)) (λ t. inr (cond-false (hushed line) (Ok None) (told (worded line)) t)) (cases_Bool (hushed line))
+
+spoken_read : (line : List ℕ) → hushed line ≡ false → line_of line ≡ told (worded line)
+spoken_read line h = cond-false (hushed line) (Ok None) (told (worded line)) h
+
+-- an answer that something is said tells what was read, and an answer that nothing is said is none of these
+told_is : (r : Result Entry LineFault) (x : Entry) → told r ≡ Ok (Some x) → r ≡ Ok x
+told_is (Ok y) x h = cc
+told_is (Err e) x h = let z : ◌≡◌ {A = ℕ} 0 1 = cc in absurd (omega arith)
+
+told_some : (r : Result Entry LineFault) → told r ≡ Ok None → ⊥
+told_some (Ok y) h = let z : ◌≡◌ {A = ℕ} 0 1 = cc in omega arith
+told_some (Err e) h = let z : ◌≡◌ {A = ℕ} 0 1 = cc in omega arith
 
 -- an answer about quays is about the quay that was read, and about nothing else
 quay_of_lem : (r : Result Quay LineFault) (q : Quay) → result_map_both OfQuay (λ e. e) r ≡ Ok (OfQuay q) → r ≡ Ok q
 quay_of_lem (Ok x) q h = cc
 quay_of_lem (Err e) q h = let z : ◌≡◌ {A = ℕ} 0 1 = cc in absurd (omega arith)
-
-quay_not_nothing : (r : Result Quay LineFault) → result_map_both OfQuay (λ e. e) r ≡ Ok Nothing → ⊥
-quay_not_nothing (Ok x) h = let z : ◌≡◌ {A = ℕ} 0 1 = cc in omega arith
-quay_not_nothing (Err e) h = let z : ◌≡◌ {A = ℕ} 0 1 = cc in omega arith
 
 quay_not_sailing : (r : Result Quay LineFault) (s : Sailing) → result_map_both OfQuay (λ e. e) r ≡ Ok (OfSailing s) → ⊥
 quay_not_sailing (Ok x) s h = let z : ◌≡◌ {A = ℕ} 0 1 = cc in omega arith
@@ -98,10 +115,6 @@ sailing_of_lem : (r : Result Sailing LineFault) (s : Sailing) → result_map_bot
 sailing_of_lem (Ok x) s h = cc
 sailing_of_lem (Err e) s h = let z : ◌≡◌ {A = ℕ} 0 1 = cc in absurd (omega arith)
 
-sailing_not_nothing : (r : Result Sailing LineFault) → result_map_both OfSailing (λ e. e) r ≡ Ok Nothing → ⊥
-sailing_not_nothing (Ok x) h = let z : ◌≡◌ {A = ℕ} 0 1 = cc in omega arith
-sailing_not_nothing (Err e) h = let z : ◌≡◌ {A = ℕ} 0 1 = cc in omega arith
-
 sailing_not_quay : (r : Result Sailing LineFault) (q : Quay) → result_map_both OfSailing (λ e. e) r ≡ Ok (OfQuay q) → ⊥
 sailing_not_quay (Ok x) q h = let z : ◌≡◌ {A = ℕ} 0 1 = cc in omega arith
 sailing_not_quay (Err e) q h = let z : ◌≡◌ {A = ℕ} 0 1 = cc in omega arith
@@ -109,50 +122,49 @@ sailing_not_quay (Err e) q h = let z : ◌≡◌ {A = ℕ} 0 1 = cc in omega ari
 no_word : (x : Entry) → ◌≡◌ {A = Result Entry LineFault} (Err NoWord) (Ok x) → ⊥
 no_word x h = let z : ◌≡◌ {A = ℕ} 0 1 = cc in omega arith
 
-silent_told : (line : List ℕ) → line_of line ≡ Ok Nothing → Silent line
-silent_told line h = go (way line)
+-- what is said stands in the words
+said : (line : List ℕ) (x : Entry) → line_of line ≡ Ok (Some x) → worded line ≡ Ok x
+said line x h = ⊎_elim (λ w. absurd (other (sym w.1 ∙ h))) (λ w. told_is (worded line) x (sym w ∙ h)) (way line)
   where
-    go : Way line → Silent line
-    go (inl w) = hushed_means line w.0
-    go (inr (inl w)) = absurd (quay_not_nothing (quay_of line) (sym w.1 ∙ h))
-    go (inr (inr (inl w))) = absurd (sailing_not_nothing (sailing_of line) (sym w.1 ∙ h))
-    go (inr (inr (inr w))) = absurd (no_word Nothing (sym w ∙ h))
-
-quay_told : (line : List ℕ) (q : Quay) → line_of line ≡ Ok (OfQuay q) → QuayLine line q
-quay_told line q h = go (way line)
-  where
-    other : ◌≡◌ {A = Result Entry LineFault} (Ok Nothing) (Ok (OfQuay q)) → ⊥
+    other : ◌≡◌ {A = Result (Option Entry) LineFault} (Ok None) (Ok (Some x)) → ⊥
     other e = let z : ◌≡◌ {A = ℕ} 0 1 = cc in omega arith
 
-    go : Way line → QuayLine line q
-    go (inl w) = absurd (other (sym w.1 ∙ h))
-    go (inr (inl w)) = quay_stands line q w.0 (quay_of_lem (quay_of line) q (sym w.1 ∙ h))
-    go (inr (inr (inl w))) = absurd (sailing_not_quay (sailing_of line) q (sym w.1 ∙ h))
-    go (inr (inr (inr w))) = absurd (no_word (OfQuay q) (sym w ∙ h))
+silent_told : (line : List ℕ) → line_of line ≡ Ok None → Silent line
+silent_told line h = ⊎_elim (λ w. hushed_means line w.0) (λ w. absurd (told_some (worded line) (sym w ∙ h))) (way line)
 
-sailing_told : (line : List ℕ) (s : Sailing) → line_of line ≡ Ok (OfSailing s) → SailingLine line s
-sailing_told line s h = go (way line)
+quay_told : (line : List ℕ) (q : Quay) → line_of line ≡ Ok (Some (OfQuay q)) → QuayLine line q
+quay_told line q h = go (wording line)
   where
-    other : ◌≡◌ {A = Result Entry LineFault} (Ok Nothing) (Ok (OfSailing s)) → ⊥
-    other e = let z : ◌≡◌ {A = ℕ} 0 1 = cc in omega arith
+    is : worded line ≡ Ok (OfQuay q)
+    is = said line (OfQuay q) h
 
-    go : Way line → SailingLine line s
-    go (inl w) = absurd (other (sym w.1 ∙ h))
-    go (inr (inl w)) = absurd (quay_not_sailing (quay_of line) s (sym w.1 ∙ h))
-    go (inr (inr (inl w))) = sailing_stands line s w.0 (sailing_of_lem (sailing_of line) s (sym w.1 ∙ h))
-    go (inr (inr (inr w))) = absurd (no_word (OfSailing s) (sym w ∙ h))
+    go : Wording line → QuayLine line q
+    go (inl w) = quay_stands line q w.0 (quay_of_lem (quay_of line) q (sym w.1 ∙ is))
+    go (inr (inl w)) = absurd (sailing_not_quay (sailing_of line) q (sym w.1 ∙ is))
+    go (inr (inr w)) = absurd (no_word (OfQuay q) (sym w ∙ is))
+
+sailing_told : (line : List ℕ) (s : Sailing) → line_of line ≡ Ok (Some (OfSailing s)) → SailingLine line s
+sailing_told line s h = go (wording line)
+  where
+    is : worded line ≡ Ok (OfSailing s)
+    is = said line (OfSailing s) h
+
+    go : Wording line → SailingLine line s
+    go (inl w) = absurd (quay_not_sailing (quay_of line) s (sym w.1 ∙ is))
+    go (inr (inl w)) = sailing_stands line s w.0 (sailing_of_lem (sailing_of line) s (sym w.1 ∙ is))
+    go (inr (inr w)) = absurd (no_word (OfSailing s) (sym w ∙ is))
 
 pub says : (line : List ℕ) → Says line (line_of line)
 says line = record {
-  silent = (silent_told line, λ h. cond-true (hushed line) (Ok Nothing) (worded line) (silent_hushed line h));
+  silent = (silent_told line, λ h. cond-true (hushed line) (Ok None) (told (worded line)) (silent_hushed line h));
   quay = λ q. (
     quay_told line q,
     λ h.
-        quay_read line (spoken line 113 (first_byte line (codes "quay") 4 (omega arith) h.word) (omega arith)) h.word ∙ ap (result_map_both OfQuay (λ e. e)) (quay_here line q h),
+        spoken_read line (spoken line 113 (first_byte line (codes "quay") 4 (omega arith) h.word) (omega arith)) ∙ ap told (quay_worded line h.word ∙ ap (result_map_both OfQuay (λ e. e)) (quay_here line q h)),
   );
   sailing = λ s. (
     sailing_told line s,
     λ h.
-        sailing_read line (spoken line 115 (first_byte line (codes "sailing") 7 (omega arith) h.word) (omega arith)) h.word ∙ ap (result_map_both OfSailing (λ e. e)) (sailing_here line s h),
+        spoken_read line (spoken line 115 (first_byte line (codes "sailing") 7 (omega arith) h.word) (omega arith)) ∙ ap told (sailing_worded line h.word ∙ ap (result_map_both OfSailing (λ e. e)) (sailing_here line s h)),
   );
 }

@@ -1,26 +1,26 @@
 -- What a line of a timetable says. Assumes nothing.
-use Rattle.std.specs.Prelude.{◌≡◌, ℕ, Bool, cond, ◌||◌, ◌⊎◌, List, [], length, take, Ok, Err, codes, Result, ◌==◌, slice_index}
+use Rattle.std.specs.Prelude.{◌≡◌, ℕ, Bool, cond, ◌||◌, ◌⊎◌, List, [], length, Some, None, Ok, Err, codes, Option, Result, ◌==◌, nat_eq, slice_index}
 use Rattle.std.specs.Result.{result_map_both}
-use Rattle.std.specs.Str.{bytes_eq}
+use Rattle.std.specs.List.{starts_with}
 use Rattle.timetable.specs.declared.sailing.Sailing.{Sailing}
 use Rattle.image.specs.declared.quay.Quay.{Quay}
 use Rattle.booktext.specs.declared.entry.Entry.{Entry}
-use Rattle.booktext.specs.declared.entry.Entry.TheVariants.{Nothing, Quay as OfQuay, Sailing as OfSailing}
+use Rattle.booktext.specs.declared.entry.Entry.TheVariants.{Quay as OfQuay, Sailing as OfSailing}
 use Rattle.booktext.specs.declared.entry.LineFault.{LineFault}
 use Rattle.booktext.specs.declared.entry.LineFault.TheVariants.{NoWord}
 use Rattle.booktext.specs.Quays.{quay_of, QuayLine}
 use Rattle.booktext.specs.Sailings.{sailing_of, SailingLine}
 
 abbrev pub begins : List ℕ → List ℕ → Bool
-begins word line = bytes_eq (take (length word) line) word
+begins word line = starts_with nat_eq line word
 
 abbrev pub worded : List ℕ → Result Entry LineFault
 worded line =
     cond (begins (codes "quay") line) (result_map_both OfQuay (λ e. e) (quay_of line))
     (cond (begins (codes "sailing") line) (result_map_both OfSailing (λ e. e) (sailing_of line)) (Err NoWord))
 
-abbrev pub line_of : List ℕ → Result Entry LineFault
-line_of line = cond (length line == 0 || slice_index line 0 == 35) (Ok Nothing) (worded line)
+abbrev pub line_of : List ℕ → Result (Option Entry) LineFault
+line_of line = cond (length line == 0 || slice_index line 0 == 35) (Ok None) (result_map_both Some (λ e. e) (worded line))
 
 -- a line that says nothing is empty or begins with #, which is byte 35
 abbrev pub Silent : List ℕ → Type 0
@@ -31,7 +31,7 @@ abbrev pub Answers : {X : Type 0} → X → X → Type 0 → Type 0
 Answers r a P = (r ≡ a → P) × (P → r ≡ a)
 
 -- the answer tells what the line says, and nothing else
-pub record Says (line : List ℕ) (r : Result Entry LineFault) : Type 0 where
-  pub silent : Answers r (Ok Nothing) (Silent line)
-  pub quay : (q : Quay) → Answers r (Ok (OfQuay q)) (QuayLine line q)
-  pub sailing : (s : Sailing) → Answers r (Ok (OfSailing s)) (SailingLine line s)
+pub record Says (line : List ℕ) (r : Result (Option Entry) LineFault) : Type 0 where
+  pub silent : Answers r (Ok None) (Silent line)
+  pub quay : (q : Quay) → Answers r (Ok (Some (OfQuay q))) (QuayLine line q)
+  pub sailing : (s : Sailing) → Answers r (Ok (Some (OfSailing s))) (SailingLine line s)

@@ -1,21 +1,22 @@
 -- Lines that tell a sailing. Assumes nothing.
 use Rattle.std.specs.Prelude.{◌≡◌, ℕ, cond, List, length, take, Ok, Err, codes, Result, ◌==◌}
 use Rattle.timetable.specs.declared.sailing.Sailing.{Sailing}
+use Rattle.numerals.specs.declared.field.Field.{Field}
 use Rattle.numerals.specs.Numbers.{Numeral}
 use Rattle.numerals.specs.Times.{TimeOfDay}
 use Rattle.booktext.specs.declared.entry.LineFault.{LineFault}
 use Rattle.booktext.specs.declared.entry.LineFault.TheVariants.{Surplus}
-use Rattle.booktext.specs.declared.pair.Pair.{Pair}
-use Rattle.booktext.specs.Fields.{two_numbers, two_times, and_then}
+use Rattle.booktext.specs.Fields.{number_here, time_here, and_then}
 
-abbrev pub sailing_with : Pair → Pair → Pair → Sailing
-sailing_with trip quays times =
-    record { run = trip.first; leg = trip.second; from = quays.first; to = quays.second; dep = times.first; arr = times.second }
+abbrev pub sailing_with : (run leg from to dep arr : Field ℕ) → Sailing
+sailing_with run leg from to dep arr =
+    record { run = run.value; leg = leg.value; from = from.value; to = to.value; dep = dep.value; arr = arr.value }
 
 abbrev pub sailing_of : List ℕ → Result Sailing LineFault
 sailing_of line =
-    and_then (two_numbers line 7) (λ trip. and_then (two_numbers line trip.next) (λ quays. and_then (two_times line quays.next) (λ times.
-    cond (times.next == length line) (Ok (sailing_with trip quays times)) (Err (Surplus times.next)))))
+    and_then (number_here line 7) (λ run. and_then (number_here line run.next) (λ leg. and_then (number_here line leg.next) (λ from.
+    and_then (number_here line from.next) (λ to. and_then (time_here line to.next) (λ dep. and_then (time_here line dep.next) (λ arr.
+    cond (arr.next == length line) (Ok (sailing_with run leg from to dep arr)) (Err (Surplus arr.next))))))))
 
 -- the word, then four numbers and two times, each from the byte after the one before, and the last up to the end
 pub record SailingLine (line : List ℕ) (s : Sailing) : Type 0 where

@@ -1,16 +1,15 @@
 use image::quay::Quay;
 use timetable::sailing::Sailing;
 
-// What a line says.
-#[derive(Clone, Copy)]
+// What a line says, if it says anything.
+#[derive(Clone, Copy, PartialEq, Debug)]
 pub enum Entry {
-    Nothing,
     Quay(Quay),
     Sailing(Sailing),
 }
 
 // Why a line cannot be read. A number tells how many bytes of the line were read before.
-#[derive(Clone, Copy)]
+#[derive(Clone, Copy, PartialEq, Debug)]
 pub enum LineFault {
     NoWord,
     NoNumber(usize),

@@ -4,6 +4,5 @@
 pub mod entry;
 mod fields;
 pub mod line;
-mod pair;
 mod quays;
 mod sailings;

@@ -14,9 +14,7 @@ fn fill(name: &[u8]) -> [u8; 10]
     ensures { result ≡ filled name.now }
 {
     let mut letters = [b' '; 10];
-    for i in 0..name.len() {
-        letters[i] = name[i];
-    }
+    letters[..name.len()].copy_from_slice(name);
     letters
 }
 

@@ -9,18 +9,21 @@ use timetable::sailing::Sailing;
 pub(crate) fn sailing_line(line: &[u8]) -> Result<Sailing, LineFault>
     ensures { result ≡ sailing_of line.now }
 {
-    let trip = two_numbers(line, 7)?;
-    let quays = two_numbers(line, trip.next)?;
-    let times = two_times(line, quays.next)?;
-    if times.next != line.len() {
-        return Err(LineFault::Surplus(times.next));
+    let run = number(line, 7)?;
+    let leg = number(line, run.next)?;
+    let from = number(line, leg.next)?;
+    let to = number(line, from.next)?;
+    let dep = time(line, to.next)?;
+    let arr = time(line, dep.next)?;
+    if arr.next != line.len() {
+        return Err(LineFault::Surplus(arr.next));
     }
     Ok(Sailing {
-        run: trip.first,
-        leg: trip.second,
-        from: quays.first,
-        to: quays.second,
-        dep: times.first,
-        arr: times.second,
+        run: run.value,
+        leg: leg.value,
+        from: from.value,
+        to: to.value,
+        dep: dep.value,
+        arr: arr.value,
     })
 }

@@ -12,5 +12,5 @@ returns-then-is_empty c =
 pub returns : goal.returns
 returns c =
     let line = c.args.line.now in
-    let e : c.worded_line.result ≡ line_of line = search rules in
+    let e : _ ≡ line_of line = search rules in
     record { value = e; exact = subst (λ r. Says line r) (sym e) (says line) }
