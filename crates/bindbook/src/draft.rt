@@ -1,27 +1,30 @@
 //! A timetable as it is read.
-ghost use Rattle.std.specs.Prelude.{◌≡◌, true, is_ok, vec_len};
+ghost use Rattle.std.specs.Prelude.{◌≡◌, true, is_ok, map, vec_len, IfOk};
 ghost use Rattle.bindbook.specs.Drafts.{Adds};
-ghost use Rattle.bindbook.specs.Excess.{excess_of};
+ghost use Rattle.bindbook.specs.Excess.{fits_in};
 
 use crate::blame::blamed_line;
 use crate::excess::Excess;
+use crate::lined::Lined;
 use binder::unbound::Unbound;
 use booktext::entry::Entry;
 use image::quay::Quay;
 use std::alloc::{AllocError, Global};
+use timetable::limits::{MOST_PLACES, MOST_QUAYS};
 use timetable::sailing::Sailing;
 
-const MOST_QUAYS: usize = 256;
-
-const MOST_SAILINGS: usize = 3072;
+// What was told, without the lines.
+pub(crate) fn all_told<T: Copy>(rows: &[Lined<T>], heap: Global) -> Result<Vec<T>, AllocError>
+    ensures { IfOk result (λ v. v.items ≡ map (λ x. x.told) rows.now) }
+{
+    rows.iter().map(|lined| lined.told).collect(heap)
+}
 
 // The quays and the sailings of a timetable, each with the number of its line.
 #[derive(Drop)]
 pub(crate) struct Draft {
-    pub(crate) quays: Vec<Quay>,
-    pub(crate) sailings: Vec<Sailing>,
-    quay_lines: Vec<u64>,
-    sailing_lines: Vec<u64>,
+    pub(crate) quays: Vec<Lined<Quay>>,
+    pub(crate) sailings: Vec<Lined<Sailing>>,
 }
 
 impl Draft {
@@ -31,8 +34,6 @@ impl Draft {
         Draft {
             quays: Vec::new(heap),
             sailings: Vec::new(heap),
-            quay_lines: Vec::new(heap),
-            sailing_lines: Vec::new(heap),
         }
     }
 
@@ -41,40 +42,31 @@ impl Draft {
         ensures { is_ok result ≡ true → Adds self.old line entry self.new }
     {
         match entry {
-            Entry::Nothing => {}
-            Entry::Quay(quay) => {
-                self.quays.push(quay)?;
-                self.quay_lines.push(line)?;
-            }
-            Entry::Sailing(sailing) => {
-                self.sailings.push(sailing)?;
-                self.sailing_lines.push(line)?;
-            }
+            Entry::Quay(told) => self.quays.push(Lined { line, told })?,
+            Entry::Sailing(told) => self.sailings.push(Lined { line, told })?,
         }
         Ok(())
     }
 
-    // Which of the two there are more of than any book holds, so that no book can come of it.
-    pub(crate) fn excess(&self) -> Option<Excess>
-        ensures { result ≡ excess_of (vec_len self.now.quays) (vec_len self.now.sailings) }
+    // Whether there are no more of the two than a book holds. Of more no book can come.
+    pub(crate) fn fits(&self) -> Result<(), Excess>
+        ensures { result ≡ fits_in (vec_len self.now.quays) (vec_len self.now.sailings) }
     {
-        if self.quays.len() > MOST_QUAYS {
-            return Some(Excess::Quays);
+        if self.quays.len() > usize::from(MOST_QUAYS) {
+            return Err(Excess::Quays);
         }
-        if self.sailings.len() > MOST_SAILINGS {
-            return Some(Excess::Sailings);
+        if self.sailings.len() > usize::from(MOST_PLACES) {
+            return Err(Excess::Sailings);
         }
-        None
+        Ok(())
     }
 
     // The line that a refusal is about, if there is one.
     pub(crate) fn line_of(&self, unbound: Unbound) -> Option<u64> {
         match unbound {
-            Unbound::Faulty(fault) => blamed_line(
-                fault,
-                self.quay_lines.as_slice(),
-                self.sailing_lines.as_slice(),
-            ),
+            Unbound::Faulty(fault) => {
+                blamed_line(fault, self.quays.as_slice(), self.sailings.as_slice())
+            }
             Unbound::ShortImage => None,
         }
     }

@@ -1,5 +1,5 @@
 // What a timetable has too many of.
-#[derive(Clone, Copy)]
+#[derive(Clone, Copy, PartialEq, Debug)]
 pub(crate) enum Excess {
     Quays,
     Sailings,

@@ -5,14 +5,15 @@ mod blame;
 mod draft;
 mod ending;
 mod excess;
+mod lined;
 mod listing;
 mod messages;
 
-use crate::draft::Draft;
+use crate::draft::*;
 use crate::ending::without_ending;
 use crate::listing::list_book;
-use crate::messages::*;
-use anyhow::anyhow;
+use crate::messages::Failure;
+use anyhow::{Error, anyhow};
 use binder::bind::bind;
 use booktext::line::read_line;
 use image::check::check_printed;
@@ -32,46 +33,39 @@ fn read_draft(rt: &HostRuntime) -> anyhow::Result<Draft> {
         if input.read_until(b'\n', &mut line)? == 0 {
             break;
         }
-        match read_line(without_ending(line.as_slice())) {
-            Ok(entry) => draft.add(number, entry)?,
-            Err(fault) => {
-                let unreadable = Unreadable {
-                    line: number,
-                    fault,
-                };
-                return Err(anyhow!(format!(in rt.alloc(); "{unreadable}")?));
-            }
-        }
-        if let Some(excess) = draft.excess() {
-            let overfull = Overfull {
+        let said = read_line(without_ending(line.as_slice())).map_err(|fault| {
+            Error::msg(Failure::Unreadable {
                 line: number,
-                excess,
-            };
-            return Err(anyhow!(format!(in rt.alloc(); "{overfull}")?));
+                fault,
+            })
+        })?;
+        if let Some(entry) = said {
+            draft.add(number, entry)?;
+            draft.fits().map_err(|excess| {
+                Error::msg(Failure::Overfull {
+                    line: number,
+                    excess,
+                })
+            })?;
         }
     }
     Ok(draft)
 }
 
 fn bind_draft(rt: &HostRuntime, draft: &Draft) -> anyhow::Result<Vec<u8>> {
+    let quays = all_told(draft.quays.as_slice(), rt.alloc())?;
+    let sailings = all_told(draft.sailings.as_slice(), rt.alloc())?;
     let mut image = vec![in rt.alloc(); 0u8; LONGEST_IMAGE]?;
-    match bind(
-        draft.quays.as_slice(),
-        draft.sailings.as_slice(),
-        image.as_mut_slice(),
-    ) {
-        Ok(len) => {
-            image.truncate(len);
-            Ok(image)
-        }
-        Err(unbound) => {
-            let refused = Refused {
-                unbound,
+    let len = bind(quays.as_slice(), sailings.as_slice(), image.as_mut_slice()).map_err(
+        |unbound| {
+            Error::msg(Failure::Refused {
                 line: draft.line_of(unbound),
-            };
-            Err(anyhow!(format!(in rt.alloc(); "{refused}")?))
-        }
-    }
+                unbound,
+            })
+        },
+    )?;
+    image.truncate(len);
+    Ok(image)
 }
 
 fn run(rt: &HostRuntime) -> anyhow::Result<()> {
