@@ -3,6 +3,7 @@
 
 pub mod clock_face;
 pub mod clock_face_book;
+pub mod opened;
 pub mod printed;
 pub mod printed_book;
 mod reading;

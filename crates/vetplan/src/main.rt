@@ -5,19 +5,15 @@ mod desk;
 
 use crate::desk::serve;
 use anyhow::Context;
-use books::clock_face::ClockFace;
-use books::printed::Printed;
-use image::check::check_image;
-use image::fault::Kind;
+use books::opened::Opened;
 use std::fs;
 use std::process::ExitCode;
 
 fn run(rt: &HostRuntime) -> anyhow::Result<()> {
     let image = fs::read(rt, "book.img").context("book.img")?;
-    let bytes = image.as_slice();
-    match check_image(bytes) {
-        Ok(Kind::Printed) => serve(rt, Printed::open(bytes)),
-        Ok(Kind::ClockFace) => serve(rt, ClockFace::open(bytes)),
+    match Opened::open(image.as_slice()) {
+        Ok(Opened::Printed(book)) => serve(rt, book),
+        Ok(Opened::ClockFace(book)) => serve(rt, book),
         Err(fault) => {
             let number = fault.refusal.number();
             println!(rt; "E {number} {}", fault.byte)?;
