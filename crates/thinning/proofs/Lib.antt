@@ -2,6 +2,5 @@ pub mod Tested
 pub mod Orders
 pub mod Descent
 pub mod Replaced
-pub mod Scans
 pub mod Spans
 pub mod Marking

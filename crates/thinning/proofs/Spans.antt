@@ -1,12 +1,13 @@
 -- What leaves another quay cannot outrank a sailing, so the span of its quay is all there is to look through. Assumes nothing.
-use Rattle.std.proofs.Common.{◌≡◌, ℕ, zero, suc, ◌<◌, ◌≤◌, Bool, true, false, List, length, get_or, Some, None, Option, sym, refl, ap, ◌∙◌, subst, ⊎_elim, arith}
-use Rattle.std.proofs.lemmas.Bool.{cases_lt, cases_Bool, or_left, or_right}
+use Rattle.std.proofs.Common.{◌≡◌, ℕ, zero, suc, ◌+◌, ◌-◌, ◌<◌, ◌≤◌, Bool, true, false, ◌||◌, List, [], ◌∷◌, length, get_or, take, drop, Some, None, Option, sym, refl, ap, ◌∙◌, subst, ⊎_elim, arith}
+use Rattle.std.specs.List.{list_any, slice_range}
+use Rattle.std.proofs.lemmas.Bool.{cases_lt, cases_Bool, or_left, or_right, or_cases, true≢false, false≢true}
+use Rattle.std.proofs.lemmas.List.{get_or-drop}
 use Rattle.timetable.specs.declared.sailing.Sailing.{Sailing}
 use Rattle.timetable.specs.Timetables.{Timetable, Lawful, place_at, span_at}
-use Rattle.thinning.specs.declared.weight.Weight.{Weight}
-use Rattle.thinning.specs.Margins.{passes}
+use Rattle.thinning.specs.declared.standing.Standing.{Standing}
 use Rattle.thinning.specs.Dominance.{outranks, over_from, some_below, dominated}
-use Rattle.thinning.specs.Weights.{weight_of, weight_from, no_weight, outranks_by, Weighed}
+use Rattle.thinning.specs.Weights.{weight_of, standing_from, row_outranks, Weighed}
 use Rattle.thinning.proofs.Tested.{passing, outranks_parts}
 use Rattle.thinning.proofs.Descent.{none_below}
 
@@ -38,15 +39,79 @@ below_found f (suc n) i h e = ⊎_elim
 pub one_in_span : (t : Timetable) (q : ℕ) (Q : Sailing) (p : ℕ) → p < length t.places → over_from t p (place_at t p) q Q ≡ true → true ≡ dominated t q Q
 one_in_span t q Q p h e = sym (below_found (λ k. over_from t k (place_at t k) q Q) (length t.places) p h e)
 
--- a comparison by weights is that of the sailings weighed
-pub weighed_over : (t : Timetable) (p q : ℕ) (x : Option Sailing) (Q : Sailing) (v w : Weight) → v ≡ weight_from t x → w ≡ weight_of t Q →
-    passes (λ P. outranks_by v p P w q Q) x ≡ over_from t p x q Q
-weighed_over t p q None Q v w ev ew = refl
-weighed_over t p q (Some P) Q v w ev ew = rw (ev, ew) refl
+-- a comparison of what is weighed is that of the sailings
+over_weighed : (t : Timetable) (p q : ℕ) (x : Option Sailing) (Q : Sailing) →
+    row_outranks (record { place = q; sailing = Q; weight = weight_of t Q }) (standing_from t p x) ≡ over_from t p x q Q
+over_weighed t p q None Q = refl
+over_weighed t p q (Some P) Q = refl
 
-pub over_at : (t : Timetable) (places : List (Option Sailing)) (weights : List Weight) → Weighed t places weights → (p q : ℕ) (Q : Sailing) →
-    p < length t.places → q < length t.places → place_at t q ≡ Some Q →
-    passes (λ P. outranks_by (get_or weights p no_weight) p P (get_or weights q no_weight) q Q) (get_or places p None) ≡ over_from t p (place_at t p) q Q
-over_at t places weights w p q Q hp hq e =
-    ap (λ (xs : List (Option Sailing)). passes (λ P. outranks_by (get_or weights p no_weight) p P (get_or weights q no_weight) q Q) (get_or xs p None)) w.copied
-    ∙ weighed_over t p q (place_at t p) Q _ _ (w.each p hp) (w.each q hq ∙ ap (weight_from t) e)
+same_standing : (x y : Standing) → Some x ≡ Some y → x ≡ y
+same_standing x y e = cc
+
+some_none : (q : Standing) → None ≡ Some q → ⊥
+some_none q e = let z : ◌≡◌ {A = ℕ} 0 1 = cc in omega arith
+
+-- a sailing that is weighed at a place stands there
+stood : (t : Timetable) (p : ℕ) (x : Option Sailing) (q : Standing) → Some q ≡ standing_from t p x →
+    (x ≡ Some q.sailing) × (q ≡ record { place = p; sailing = q.sailing; weight = weight_of t q.sailing })
+stood t p None q e = absurd (some_none q (sym e))
+stood t p (Some s) q e =
+    let same = same_standing q _ e in
+    (ap (λ (x : Standing). Some x.sailing) (sym same), subst (λ (x : Standing). x ≡ record { place = p; sailing = x.sailing; weight = weight_of t x.sailing }) (sym same) refl)
+
+or_off : (x y : Bool) → (x || y) ≡ false → (x ≡ false) × (y ≡ false)
+or_off true y h = absurd (true≢false h)
+or_off false y h = (refl, h)
+
+module _ (f : Option Standing → Bool) where
+  -- one of the first n rows passes
+  one_of : (n : ℕ) (rows : List (Option Standing)) → list_any f (take n rows) ≡ true → (k : ℕ) × (k < n) × (f (get_or rows k None) ≡ true)
+  one_of zero rows h = absurd (false≢true h)
+  one_of (suc n) [] h = absurd (false≢true h)
+  one_of (suc n) (x ∷ rows) h = ⊎_elim
+      (λ (e : f x ≡ true). (0, omega arith, e))
+      (λ (e : list_any f (take n rows) ≡ true). let r = one_of n rows e in (suc r.0, omega arith, r.2))
+      (or_cases (f x) (list_any f (take n rows)) h)
+
+  -- none of them does
+  none_of : f None ≡ false → (n : ℕ) (rows : List (Option Standing)) → list_any f (take n rows) ≡ false → (k : ℕ) → k < n → f (get_or rows k None) ≡ false
+  none_of z zero rows h k l = absurd (omega arith)
+  none_of z (suc n) [] h k l = z
+  none_of z (suc n) (x ∷ rows) h zero l = (or_off (f x) (list_any f (take n rows)) h).0
+  none_of z (suc n) (x ∷ rows) h (suc k) l = none_of z n rows (or_off (f x) (list_any f (take n rows)) h).1 k (omega arith)
+
+-- the rows of its quay decide whether q is dominated
+pub span_decides : (t : Timetable) → Lawful t → (rows : List (Option Standing)) → Weighed t rows → (q : Standing) → get_or rows q.place None ≡ Some q →
+    list_any (row_outranks q) (slice_range rows (span_at t q.sailing.from).start (span_at t q.sailing.from).end) ≡ dominated t q.place q.sailing
+span_decides t law rows w q e = ⊎_elim
+    (λ (h : list_any f part ≡ true).
+    let r = one_of f (b - a) (drop a rows) h in
+    h ∙ one_in_span t q.place q.sailing (a + r.0) (omega (arith, r.1, law.span_end q.sailing.from)) (sym (over (a + r.0)) ∙ sym (ap f (get_or-drop a rows r.0 None)) ∙ r.2))
+    (λ (h : list_any f part ≡ false).
+    h ∙ none_in_span t law q.place q.sailing b (omega arith) (λ k low high.
+    sym (over k) ∙ ap (λ n. f (get_or rows n None)) (omega arith) ∙ sym (ap f (get_or-drop a rows (k - a) None)) ∙ none_of f refl (b - a) (drop a rows) h (k - a) (omega arith)))
+    (cases_Bool (list_any f part))
+  where
+    f : Option Standing → Bool
+    f = row_outranks q
+
+    a : ℕ
+    a = (span_at t q.sailing.from).start
+
+    b : ℕ
+    b = (span_at t q.sailing.from).end
+
+    part : List (Option Standing)
+    part = take (b - a) (drop a rows)
+
+    over : (p : ℕ) → f (get_or rows p None) ≡ over_from t p (place_at t p) q.place q.sailing
+    over p =
+        let is = (stood t q.place (place_at t q.place) q (sym e ∙ w.each q.place)).1 in
+        ap f (w.each p) ∙ ap (λ (x : Standing). row_outranks x (standing_from t p (place_at t p))) is ∙ over_weighed t p q.place (place_at t p) q.sailing
+
+-- and it stands at its place
+pub stands_there : (t : Timetable) (rows : List (Option Standing)) → Weighed t rows → (p : ℕ) (q : Standing) → get_or rows p None ≡ Some q →
+    (place_at t p ≡ Some q.sailing) × (q.place ≡ p)
+stands_there t rows w p q e =
+    let r = stood t p (place_at t p) q (sym e ∙ w.each p) in
+    (r.0, ap (λ (x : Standing). x.place) r.1)

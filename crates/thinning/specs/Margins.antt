@@ -1,5 +1,6 @@
 -- The margins that keep a load's barge in reach. Assumes nothing.
-use Rattle.std.specs.Prelude.{ℕ, ◌+◌, Bool, false, cond, ◌||◌, List, [], ◌∷◌, Some, None, Option}
+use Rattle.std.specs.Prelude.{ℕ, ◌+◌, Bool, false, cond, List, Some, None, Option}
+use Rattle.std.specs.List.{list_any}
 use Rattle.timetable.specs.declared.sailing.Sailing.{Sailing}
 use Rattle.timetable.specs.Classes.{most}
 use Rattle.timetable.specs.Times.{continues}
@@ -12,8 +13,7 @@ passes f (Some s) = f s
 
 -- whether some place of the row has one
 abbrev pub some_passes : (Sailing → Bool) → List (Option Sailing) → Bool
-some_passes f [] = false
-some_passes f (x ∷ xs) = passes f x || some_passes f xs
+some_passes f = list_any (passes f)
 
 -- the longest wait at a quay with this change time, where a load might have stayed aboard, else none
 abbrev pub margin : Bool → ℕ → ℕ

@@ -1,34 +1,37 @@
--- A sailing with what it takes to beat it, so that a thin weighs each sailing once. Assumes nothing.
-use Rattle.std.specs.Prelude.{◌≡◌, ℕ, ◌+◌, ◌<◌, Bool, not, ◌&&◌, List, length, Some, None, Option, ◌==◌, nat_le, nat_lt, slice_index_or}
+-- A sailing at its place with what it takes to beat it, so that a thin weighs each sailing once. Assumes nothing.
+use Rattle.std.specs.Prelude.{◌≡◌, ℕ, ◌+◌, Bool, false, not, ◌&&◌, List, length, Some, None, Option, ◌==◌, nat_le, nat_lt, slice_index_or}
 use Rattle.timetable.specs.declared.sailing.Sailing.{Sailing}
 use Rattle.timetable.specs.Times.{length_of, next}
 use Rattle.timetable.specs.Timetables.{Timetable, place_at}
-use Rattle.thinning.specs.declared.weight.Weight.{Weight}
+use Rattle.thinning.specs.declared.standing.Standing.{Standing}
+use Rattle.thinning.specs.declared.standing.Weight.{Weight}
 use Rattle.thinning.specs.Margins.{margin_before, margin_after}
 
 abbrev pub weight_of : Timetable → Sailing → Weight
 weight_of t s = record { length = length_of s; before = margin_before t s; after = margin_after t s }
 
-abbrev pub no_weight : Weight
-no_weight = record { length = 0; before = 0; after = 0 }
+-- what stands at a place, weighed
+abbrev pub standing_from : Timetable → ℕ → Option Sailing → Option Standing
+standing_from t p None = None
+standing_from t p (Some s) = Some (record { place = p; sailing = s; weight = weight_of t s })
 
-abbrev pub weight_from : Timetable → Option Sailing → Weight
-weight_from t None = no_weight
-weight_from t (Some s) = weight_of t s
+-- p leaves and arrives in time to beat q
+abbrev pub in_time : Standing → Standing → Bool
+in_time p q = nat_le (next p.sailing (q.sailing.dep + q.weight.before) + p.weight.length + q.weight.after) (q.sailing.dep + q.weight.length)
 
--- P, which takes so long, leaves and arrives in time to beat Q
-abbrev pub in_time : ℕ → Sailing → Weight → Sailing → Bool
-in_time long P w Q = nat_le (next P (Q.dep + w.before) + long + w.after) (Q.dep + w.length)
+abbrev pub beats_by : Standing → Standing → Bool
+beats_by p q = not (p.place == q.place) && (p.sailing.from == q.sailing.from && (p.sailing.to == q.sailing.to && in_time p q))
 
-abbrev pub beats_by : ℕ → ℕ → Sailing → Weight → ℕ → Sailing → Bool
-beats_by long p P w q Q = not (p == q) && (P.from == Q.from && (P.to == Q.to && in_time long P w Q))
+-- p outranks q
+abbrev pub outranks_by : Standing → Standing → Bool
+outranks_by p q = beats_by p q && not (nat_lt q.place p.place && beats_by q p)
 
--- P of weight v outranks Q of weight w
-abbrev pub outranks_by : Weight → ℕ → Sailing → Weight → ℕ → Sailing → Bool
-outranks_by v p P w q Q = beats_by v.length p P w q Q && not (nat_lt q p && beats_by w.length q Q v p P)
+-- what stands in a row outranks q
+abbrev pub row_outranks : Standing → Option Standing → Bool
+row_outranks q None = false
+row_outranks q (Some p) = outranks_by p q
 
--- a copy of the places of t, and the weight of what stands at each
-pub record Weighed (t : Timetable) (places : List (Option Sailing)) (weights : List Weight) : Type 0 where
-  pub copied : places ≡ t.places
-  pub wide : length weights ≡ 3072
-  pub each : (p : ℕ) → p < length t.places → slice_index_or weights p no_weight ≡ weight_from t (place_at t p)
+-- what stands at each place of t, weighed
+pub record Weighed (t : Timetable) (rows : List (Option Standing)) : Type 0 where
+  pub wide : length rows ≡ length t.places
+  pub each : (p : ℕ) → slice_index_or rows p None ≡ standing_from t p (place_at t p)

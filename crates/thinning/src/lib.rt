@@ -1,9 +1,7 @@
 //! Which sailings of a book are dominated, the marking of them, and why no arrival is lost by it.
 #![tactic(auto)]
 
-mod copy;
 pub mod laws;
-mod ranking;
+mod standing;
 pub mod thin;
 mod weighing;
-mod weight;

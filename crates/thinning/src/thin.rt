@@ -1,77 +1,56 @@
 //! The marking of the dominated sailings.
-ghost use Rattle.std.specs.Prelude.{◌≡◌, ℕ, ◌<◌, false, length, Some, slice_index_or};
-ghost use Rattle.timetable.specs.Timetables.{place_at, span_at};
+ghost use Rattle.std.specs.Prelude.{◌≡◌, ℕ, ◌<◌, false, length, Some, None, slice_index_or};
+ghost use Rattle.std.specs.List.{list_any};
 ghost use Rattle.timetable.specs.Hiding.{hide};
 ghost use Rattle.thinning.specs.Dominance.{dominated, mark_of, dominated_in};
 ghost use Rattle.thinning.specs.Thinning.{marked, Keeps};
-ghost use Rattle.thinning.specs.Weights.{Weighed};
+ghost use Rattle.thinning.specs.Weights.{row_outranks, Weighed};
 
-use crate::copy::read;
-use crate::ranking::place_outranks;
+use crate::standing::Standing;
 use crate::weighing::weigh;
-use crate::weight::Weight;
 use tables::marks::Marks;
 use timetable::book::Book;
-use timetable::sailing::Sailing;
-use timetable::span::Span;
 
-fn span_of<B: Book>(book: &B, quay: u16) -> Span
-    ensures { result ≡ span_at (B.Book.meaning book.now) quay }
+fn some_outranks(rows: &[Option<Standing>], q: Standing) -> bool
+    ensures { result ≡ list_any (row_outranks q) rows.now }
 {
-    match book.span(quay) {
-        Ok(s) => s,
-        Err(_) => Span { start: 0, end: 0 },
-    }
+    rows.iter().any(|row| row.is_some_and(|p| p.outranks(q)))
 }
 
 // Only what leaves the same quay can outrank q, so its span alone is looked through.
-fn is_dominated<B: Book>(
-    book: &B,
-    places: &[Option<Sailing>],
-    weights: &[Weight],
-    place: u16,
-    q: Sailing,
-) -> bool
-    requires weighed { Weighed (B.Book.meaning book.now) places.now weights.now }
-    requires stands { place_at (B.Book.meaning book.now) place ≡ Some q }
-    ensures { result ≡ dominated (B.Book.meaning book.now) place q }
+fn is_dominated<B: Book>(book: &B, rows: &[Option<Standing>], q: Standing) -> bool
+    requires weighed { Weighed (B.Book.meaning book.now) rows.now }
+    requires stands { slice_index_or rows.now q.place None ≡ Some q }
+    ensures { result ≡ dominated (B.Book.meaning book.now) q.place q.sailing }
 {
-    let span = span_of(book, q.from);
-    let w = weights[place as usize];
-    for p in span.start..span.end {
-        if place_outranks(weights[p as usize], p, places[p as usize], w, place, q) {
-            return true;
-        }
-    }
-    false
+    let span = book.span_at(q.sailing.from);
+    some_outranks(&rows[span.start as usize..span.end as usize], q)
 }
 
-fn is_to_mark<B: Book>(book: &B, places: &[Option<Sailing>], weights: &[Weight], place: u16) -> bool
-    requires weighed { Weighed (B.Book.meaning book.now) places.now weights.now }
-    requires there { place < length places.now }
+// Whether what stands at a place, as its row says, is dominated.
+fn is_to_mark<B: Book>(
+    book: &B,
+    rows: &[Option<Standing>],
+    place: usize,
+    row: Option<Standing>,
+) -> bool
+    requires weighed { Weighed (B.Book.meaning book.now) rows.now }
+    requires stands { slice_index_or rows.now place None ≡ row }
     ensures { result ≡ mark_of (B.Book.meaning book.now) place }
 {
-    match places[place as usize] {
-        Some(q) => is_dominated(book, places, weights, place, q),
-        None => false,
-    }
+    row.is_some_and(|q| is_dominated(book, rows, q))
 }
 
-fn mark_weighed<B: Book>(
-    book: &B,
-    places: &[Option<Sailing>],
-    weights: &[Weight],
-    marks: &mut Marks,
-) -> u16
-    requires { Weighed (B.Book.meaning book.now) places.now weights.now }
+fn mark_weighed<B: Book>(book: &B, rows: &[Option<Standing>], marks: &mut Marks) -> u16
+    requires { Weighed (B.Book.meaning book.now) rows.now }
     ensures exact { (p : ℕ) → slice_index_or marks.new.at p false ≡ mark_of (B.Book.meaning book.now) p }
     ensures count { result ≡ dominated_in (B.Book.meaning book.now) }
 {
     marks.erase();
     let mut count = 0;
-    for place in 0..book.places() {
-        if is_to_mark(book, places, weights, place) {
-            marks.mark(place);
+    for (place, row) in rows.iter().enumerate() {
+        if is_to_mark(book, rows, place, *row) {
+            marks.mark(place as u16);
             count += 1;
         }
     }
@@ -82,10 +61,7 @@ fn mark_dominated<B: Book>(book: &B, marks: &mut Marks) -> u16
     ensures exact { (p : ℕ) → slice_index_or marks.new.at p false ≡ mark_of (B.Book.meaning book.now) p }
     ensures count { result ≡ dominated_in (B.Book.meaning book.now) }
 {
-    let copy = read(book);
-    let places = &copy[0..book.places() as usize];
-    let weights = weigh(book, places);
-    mark_weighed(book, places, &weights, marks)
+    mark_weighed(book, &weigh(book), marks)
 }
 
 // Marks the dominated sailings of a book and no other place, and tells how many they are. Whatever was marked before is forgotten.

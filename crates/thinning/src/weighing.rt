@@ -1,73 +1,42 @@
-//! What each sailing takes to be beaten, found once for all comparisons.
-ghost use Rattle.std.specs.Prelude.{◌≡◌, ℕ, ◌<◌, length, slice_index_or};
+//! What stands at each place of a book, weighed: a book may take long to answer, and each place is asked for once.
+ghost use Rattle.std.specs.Prelude.{◌≡◌, ◌<◌};
 ghost use Rattle.timetable.specs.Times.{continues, day};
-ghost use Rattle.timetable.specs.Timetables.{place_at, change_at};
-ghost use Rattle.thinning.specs.Margins.{passes, some_passes, margin};
-ghost use Rattle.thinning.specs.Weights.{weight_from, no_weight};
+ghost use Rattle.thinning.specs.Margins.{some_passes, margin};
+ghost use Rattle.thinning.specs.Weights.{weight_of, standing_from, Weighed};
 
-use crate::weight::Weight;
+use crate::standing::{Standing, Weight};
+use arrayvec::ArrayVec;
 use timetable::book::Book;
+use timetable::limits::MOST_PLACES;
 use timetable::sailing::Sailing;
+
+pub(crate) const MOST_ROWS: usize = MOST_PLACES as usize;
 
 // The largest figure of a class of cargo.
 const MOST: u16 = 45;
 
-const NO_WEIGHT: Weight = Weight {
-    length: 0,
-    before: 0,
-    after: 0,
-};
-
-fn change_of<B: Book>(book: &B, quay: u16) -> u16
-    ensures value { result ≡ change_at (B.Book.meaning book.now) quay }
-    ensures short { result < day }
+fn read<B: Book>(book: &B) -> ArrayVec<Option<Sailing>, MOST_ROWS>
+    ensures { result.items ≡ (B.Book.meaning book.now).places }
 {
-    match book.change(quay) {
-        Ok(c) => c,
-        Err(_) => 0,
+    let mut places = ArrayVec::new();
+    for place in 0..book.places() {
+        places.push(book.sailing_at(place));
     }
+    places
 }
 
-// Whether s continues what stands at a place.
-fn continues_place(s: Sailing, place: Option<Sailing>) -> bool
-    ensures { result ≡ passes (λ y. continues s y) place }
-{
-    match place {
-        Some(y) => s.continues(y),
-        None => false,
-    }
-}
-
-// Whether what stands at a place continues s.
-fn place_continues(place: Option<Sailing>, s: Sailing) -> bool
-    ensures { result ≡ passes (λ y. continues y s) place }
-{
-    match place {
-        Some(y) => y.continues(s),
-        None => false,
-    }
-}
-
+// Whether s continues what stands at some place.
 fn continues_some(places: &[Option<Sailing>], s: Sailing) -> bool
     ensures { result ≡ some_passes (λ y. continues s y) places.now }
 {
-    for p in 0..places.len() {
-        if continues_place(s, places[p]) {
-            return true;
-        }
-    }
-    false
+    places.iter().any(|y| y.is_some_and(|y| s.continues(y)))
 }
 
+// Whether what stands at some place continues s.
 fn is_continued(places: &[Option<Sailing>], s: Sailing) -> bool
     ensures { result ≡ some_passes (λ y. continues y s) places.now }
 {
-    for p in 0..places.len() {
-        if place_continues(places[p], s) {
-            return true;
-        }
-    }
-    false
+    places.iter().any(|y| y.is_some_and(|y| y.continues(s)))
 }
 
 fn margin_of(aboard: bool, change: u16) -> u16
@@ -77,28 +46,41 @@ fn margin_of(aboard: bool, change: u16) -> u16
     if aboard { change + MOST } else { 0 }
 }
 
-fn weight_of<B: Book>(book: &B, places: &[Option<Sailing>], place: Option<Sailing>) -> Weight
+fn weight_of<B: Book>(book: &B, places: &[Option<Sailing>], s: Sailing) -> Weight
     requires { places.now ≡ (B.Book.meaning book.now).places }
-    ensures { result ≡ weight_from (B.Book.meaning book.now) place }
+    ensures { result ≡ weight_of (B.Book.meaning book.now) s }
 {
-    match place {
-        Some(s) => Weight {
-            length: s.length(),
-            before: margin_of(continues_some(places, s), change_of(book, s.from)),
-            after: margin_of(is_continued(places, s), change_of(book, s.to)),
-        },
-        None => NO_WEIGHT,
+    Weight {
+        length: s.length(),
+        before: margin_of(continues_some(places, s), book.change_at(s.from)),
+        after: margin_of(is_continued(places, s), book.change_at(s.to)),
     }
 }
 
-pub(crate) fn weigh<B: Book>(book: &B, places: &[Option<Sailing>]) -> [Weight; 3072]
+fn standing_of<B: Book>(
+    book: &B,
+    places: &[Option<Sailing>],
+    place: u16,
+    x: Option<Sailing>,
+) -> Option<Standing>
     requires { places.now ≡ (B.Book.meaning book.now).places }
-    ensures wide { length result ≡ 3072 }
-    ensures each { (p : ℕ) → p < length (B.Book.meaning book.now).places → slice_index_or result p no_weight ≡ weight_from (B.Book.meaning book.now) (place_at (B.Book.meaning book.now) p) }
+    ensures { result ≡ standing_from (B.Book.meaning book.now) place x }
 {
-    let mut weights = [NO_WEIGHT; 3072];
-    for p in 0..places.len() {
-        weights[p] = weight_of(book, places, places[p]);
+    let sailing = x?;
+    Some(Standing {
+        place,
+        sailing,
+        weight: weight_of(book, places, sailing),
+    })
+}
+
+pub(crate) fn weigh<B: Book>(book: &B) -> ArrayVec<Option<Standing>, MOST_ROWS>
+    ensures { Weighed (B.Book.meaning book.now) result.items }
+{
+    let places = read(book);
+    let mut rows = ArrayVec::new();
+    for (place, x) in places.iter().enumerate() {
+        rows.push(standing_of(book, &places, place as u16, *x));
     }
-    weights
+    rows
 }

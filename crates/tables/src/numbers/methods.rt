@@ -15,10 +15,11 @@ impl<const N: usize> Numbers<N> {
         }
     }
 
+    // A table is most often empty, and then nothing is compared.
     pub fn holds(&self, x: u16) -> bool
         ensures { result ≡ has x (kept self.now) }
     {
-        self.at.contains(&x)
+        !self.at.is_empty() && self.at.contains(&x)
     }
 
     // Adds x at the end, or hands it back where there is no room.
