@@ -1,9 +1,11 @@
+pub mod Kinds
 pub mod Parts
 pub mod Layout
 pub mod Limits
 pub mod Images
 pub mod Records
 pub mod Checks
+pub mod Content
 pub mod Faults
 pub mod Meanings
 pub mod Names

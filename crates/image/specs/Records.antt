@@ -23,8 +23,11 @@ quay_start row = 16 * (1 + row)
 abbrev pub entry_at : ℕ → ℕ → ℕ → ℕ
 entry_at wide quays row = 16 * (1 + quays) + wide * row
 
+abbrev pub quay_read : List ℕ → ℕ → Quay
+quay_read bs at = record { change = number_at bs (at + 4); name = take 10 (drop (at + 6) bs) }
+
 abbrev pub quay_at : List ℕ → ℕ → Quay
-quay_at bs q = record { change = number_at bs (quay_start q + 4); name = take 10 (drop (quay_start q + 6) bs) }
+quay_at bs q = quay_read bs (quay_start q)
 
 abbrev pub sailing_at : List ℕ → ℕ → Sailing
 sailing_at bs at = record { run = number_at bs (at + 4); leg = number_at bs (at + 6); from = number_at bs (at + 8); to = number_at bs (at + 10); dep = number_at bs (at + 12); arr = number_at bs (at + 14) }

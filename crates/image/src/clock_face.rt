@@ -1,124 +1,76 @@
 //! Images of clock-face books: a record for each series of sailings.
-ghost use Rattle.std.specs.Prelude.{◌≡◌, ◌+◌, ◌<◌, ◌≤◌, length};
-ghost use Rattle.image.specs.Checks.{rhythm, keeps, counts, series, places_to, up_to, clock_check};
+ghost use Rattle.std.specs.Prelude.{◌≡◌, ◌+◌, ◌≤◌, Ok};
+ghost use Rattle.std.specs.Result.{result_and};
+ghost use Rattle.image.specs.Records.{number_at, entry_at};
+ghost use Rattle.image.specs.Checks.{rhythm_is, keeps, counts_are, series, places_to, up_to};
 
+use crate::content::{LAST_MINUTE, check_ends};
 use crate::fault::*;
-use crate::fields::*;
-use crate::heading::*;
+use crate::record::{RecordKind, check_frame};
+use crate::series::Series;
+use crate::spot::Spot;
 use timetable::refusal::Refusal;
-
-const LAST_MINUTE: u16 = 1439;
 
 const MOST_MEMBERS: u16 = 1440;
 
-fn check_rhythm(bytes: &[u8], row: usize, at: usize) -> Result<(), Fault>
-    requires { at + 20 ≤ length bytes.now }
-    ensures { result ≡ rhythm bytes.now row at }
+fn check_rhythm(s: Series, spot: Spot) -> Result<(), Fault>
+    ensures { result ≡ rhythm_is s spot.part spot.row spot.at }
 {
-    let part = Part::Entries;
-    let period = number_at(bytes, at + 14);
-    require(
-        number_at(bytes, at + 12) <= LAST_MINUTE,
-        Fault {
-            refusal: Refusal::OutOfLimits,
-            byte: at + 12,
-            part,
-            row,
-        },
-    )?;
-    require(
-        period >= 1 && period <= LAST_MINUTE,
-        Fault {
-            refusal: Refusal::OutOfLimits,
-            byte: at + 14,
-            part,
-            row,
-        },
+    spot.require(s.first <= LAST_MINUTE, Refusal::OutOfLimits, 12)?;
+    spot.require(
+        s.period >= 1 && s.period <= LAST_MINUTE,
+        Refusal::OutOfLimits,
+        14,
     )
 }
 
 // Whether the last member of a series leaves on the first day, has a run and has a place.
-fn all_kept(run: u16, first: u16, period: u16, count: u16, before: u32) -> bool
+fn all_kept(s: Series, before: u32) -> bool
     requires { before ≤ 3072 }
-    ensures { result ≡ keeps run first period count before }
+    ensures { result ≡ keeps s.run s.first s.period s.count before }
 {
-    first as u64 + (count as u64).saturating_sub(1) * period as u64 <= 1439
-        && (run as u32 + count as u32 <= 65536 && before + count as u32 <= 3072)
+    s.first as u64 + (s.count as u64).saturating_sub(1) * s.period as u64 <= 1439
+        && (s.run as u32 + s.count as u32 <= 65536 && before + s.count as u32 <= 3072)
 }
 
 // The count and the length of a series, before whose members stand `before` others.
-fn check_counts(bytes: &[u8], row: usize, at: usize, before: u32) -> Result<(), Fault>
-    requires { (at + 20 ≤ length bytes.now) × (before ≤ 3072) }
-    ensures { result ≡ counts bytes.now row at before }
+fn check_counts(s: Series, before: u32, spot: Spot) -> Result<(), Fault>
+    requires { before ≤ 3072 }
+    ensures { result ≡ counts_are s before spot.part spot.row spot.at }
 {
-    let part = Part::Entries;
-    let count = number_at(bytes, at + 16);
-    require(
-        count >= 1 && count <= MOST_MEMBERS,
-        Fault {
-            refusal: Refusal::OutOfLimits,
-            byte: at + 16,
-            part,
-            row,
-        },
+    spot.require(
+        s.count >= 1 && s.count <= MOST_MEMBERS,
+        Refusal::OutOfLimits,
+        16,
     )?;
-    let kept = all_kept(
-        number_at(bytes, at + 4),
-        number_at(bytes, at + 12),
-        number_at(bytes, at + 14),
-        count,
-        before,
-    );
-    require(
-        kept,
-        Fault {
-            refusal: Refusal::SeriesLeaves,
-            byte: at + 16,
-            part,
-            row,
-        },
-    )?;
-    require(
-        number_at(bytes, at + 18) <= LAST_MINUTE,
-        Fault {
-            refusal: Refusal::OutOfLimits,
-            byte: at + 18,
-            part,
-            row,
-        },
-    )
+    spot.require(all_kept(s, before), Refusal::SeriesLeaves, 16)?;
+    spot.require(s.length <= LAST_MINUTE, Refusal::OutOfLimits, 18)
 }
 
-fn check_series(bytes: &[u8], quays: u16, row: usize, before: u32) -> Result<(), Fault>
-    requires { (quays ≤ 256) × ((row < 512) × ((before ≤ 3072) × (before ≡ places_to bytes.now quays row))) }
-    ensures { result ≡ series bytes.now quays row }
+// The series of a row, and how many members it has.
+fn check_series_at(bytes: &[u8], quays: u16, row: u16, before: u32) -> Result<u16, Fault>
+    requires { (before ≤ 3072) × (before ≡ places_to bytes.now quays row) }
+    ensures { result ≡ result_and (series bytes.now quays row) (Ok (number_at bytes.now (entry_at 20 quays row + 16))) }
 {
-    let at = 16 * (1 + quays as usize) + 20 * row;
-    check_frame(bytes, at, 18, 5, Part::Entries, row)?;
-    check_ends(bytes, quays, row, at, 20)?;
-    check_rhythm(bytes, row, at)?;
-    check_counts(bytes, row, at, before)
+    let spot = Spot {
+        part: Part::Entries,
+        row,
+        at: 16 * (1 + quays as u32) + 20 * row as u32,
+    };
+    let record = check_frame::<20>(bytes, spot, RecordKind::Series)?;
+    let s = record.series();
+    check_ends(s.from, s.to, record.from_before(row), quays, spot)?;
+    check_rhythm(s, spot)?;
+    check_counts(s, before, spot)?;
+    Ok(s.count)
 }
 
-fn check_all_series(bytes: &[u8], quays: u16, entries: u16) -> Result<(), Fault>
-    requires { (quays ≤ 256) × (entries ≤ 512) }
+pub(crate) fn check_all_series(bytes: &[u8], quays: u16, entries: u16) -> Result<(), Fault>
     ensures { result ≡ up_to (series bytes.now quays) entries }
 {
-    let mut places = 0u32;
-    for row in 0..entries as usize {
-        check_series(bytes, quays, row, places)?;
-        places += number_at(bytes, 16 * (1 + quays as usize) + 20 * row + 16) as u32;
+    let mut places = 0;
+    for row in 0..entries {
+        places += check_series_at(bytes, quays, row, places)? as u32;
     }
     Ok(())
-}
-
-pub(crate) fn judge_clock_face(bytes: &[u8]) -> Result<(), Fault>
-    ensures { result ≡ clock_check bytes.now }
-{
-    check_heading(bytes, 2, 512)?;
-    let quays = number_at(bytes, 4);
-    let entries = number_at(bytes, 6);
-    check_quays(bytes, quays)?;
-    check_all_series(bytes, quays, entries)?;
-    check_ending(bytes, 16 * (1 + quays as usize) + 20 * entries as usize)
 }

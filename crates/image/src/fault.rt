@@ -1,5 +1,6 @@
 ghost use Rattle.std.specs.Prelude.{◌≡◌};
 ghost use Rattle.image.specs.Parts.{part_number};
+ghost use Rattle.image.specs.Checks.{most_entries, entry_wide};
 
 use timetable::refusal::Refusal;
 
@@ -10,25 +11,42 @@ pub enum Kind {
     ClockFace,
 }
 
-// The parts of an image, in their order. What follows the last record is the end.
+impl Kind {
+    // How many entries a book of the kind may have,
+    pub(crate) fn most_entries(self) -> u16
+        ensures { result ≡ most_entries self }
+    {
+        match self {
+            Kind::Printed => 3072,
+            Kind::ClockFace => 512,
+        }
+    }
+
+    // and how wide the record of each is.
+    pub(crate) fn entry_wide(self) -> u16
+        ensures { result ≡ entry_wide self }
+    {
+        match self {
+            Kind::Printed => 16,
+            Kind::ClockFace => 20,
+        }
+    }
+}
+
+// The parts of an image, in their order and with their numbers. What follows the last record is the end.
 #[derive(Clone, Copy)]
 pub enum Part {
-    Heading,
-    Quays,
-    Entries,
-    End,
+    Heading = 1,
+    Quays = 2,
+    Entries = 3,
+    End = 4,
 }
 
 impl Part {
     pub fn number(self) -> u8
         ensures { result ≡ part_number self }
     {
-        match self {
-            Part::Heading => 1,
-            Part::Quays => 2,
-            Part::Entries => 3,
-            Part::End => 4,
-        }
+        self as u8
     }
 }
 

@@ -3,9 +3,11 @@
 
 pub mod check;
 mod clock_face;
+pub mod content;
 pub mod fault;
-mod fields;
 mod heading;
 mod printed;
 pub mod quay;
+pub mod record;
 pub mod series;
+pub mod spot;

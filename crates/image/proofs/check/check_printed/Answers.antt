@@ -8,7 +8,7 @@ use Rattle.image.proofs.check.check_printed.Goals as goal
 pub returns : goal.returns
 returns c =
     let bs = c.args.bytes.now in
-    let e = c.judge_printed.ensures in
+    let e = c.judge_as.ensures in
     record {
       value = e;
       exact = subst (λ r. Decides (is_ok r) (PrintedOf bs)) (sym e) (printed_exact bs (λ i. let f = c.type_inv.bytes i in omega (arith, f)));
