@@ -19,11 +19,7 @@ use timetable::refusal::Refusal;
 use timetable::sailing::Sailing;
 use timetable::span::Span;
 
-// The image of one nameless quay with no places.
-static BLANK: [u8; 32] = [
-    14, 0, 2, 0, 1, 0, 0, 0, 0, 0, 0, 0, 0, 0, 0, 0, 14, 0, 3, 0, 0, 0, 32, 32, 32, 32, 32, 32, 32,
-    32, 32, 32,
-];
+static BLANK: [u8; 32] = blank!(2);
 
 // Member k of a series.
 fn member_of(s: Series, k: u16) -> Sailing
@@ -59,10 +55,16 @@ impl<'a> ClockFace<'a> {
     fn over(bytes: &'a [u8]) -> ClockFace<'a>
         ensures { result.bytes.now ≡ (if is_ok (clock_check bytes.now) then bytes.now else blank_image 2) }
     {
-        if let Err(_) = check_clock_face(bytes) {
+        let Ok(()) = check_clock_face(bytes) else {
             return ClockFace { bytes: &BLANK };
-        }
+        };
         ClockFace { bytes }
+    }
+
+    fn image(&self) -> Image<'a, 20>
+        ensures { result.bytes.now ≡ self.now.bytes.now }
+    {
+        Image { bytes: self.bytes }
     }
 
     // The name of a quay, a part of the image without trailing spaces.
@@ -70,7 +72,7 @@ impl<'a> ClockFace<'a> {
         ensures value { result_map_both (λ x. x.now) (λ e. e) result ≡ asked (names_in self.now.bytes.now) quay [] NoQuay }
         ensures trims { (n : List ℕ) → result_map_both (λ x. x.now) (λ e. e) result ≡ Ok n → Trims (quay_at self.now.bytes.now quay).name n }
     {
-        name_in(self.bytes, quay)
+        self.image().name(quay)
     }
 
     // The series of a row.
@@ -78,8 +80,7 @@ impl<'a> ClockFace<'a> {
         requires { row < entries_in self.now.bytes.now }
         ensures { result ≡ series_at self.now.bytes.now (entry_at 20 (quays_in self.now.bytes.now) row) }
     {
-        let quays = number_at(self.bytes, 4);
-        series_at(self.bytes, 16 * (1 + quays as usize) + 20 * row)
+        self.image().record(row).series()
     }
 
     // How many members the series of a row has: all that a walk over the series has to read.
@@ -87,8 +88,7 @@ impl<'a> ClockFace<'a> {
         requires { row < entries_in self.now.bytes.now }
         ensures { result ≡ number_at self.now.bytes.now (entry_at 20 (quays_in self.now.bytes.now) row + 16) }
     {
-        let quays = number_at(self.bytes, 4);
-        number_at(self.bytes, 16 * (1 + quays as usize) + 20 * row + 16)
+        number_at(self.bytes, self.image().record(row).at + 16)
     }
 
     // How many sailings leave a quay below this one.
@@ -96,7 +96,7 @@ impl<'a> ClockFace<'a> {
         ensures { result ≡ below quay (clock_sailings self.now.bytes.now) }
     {
         let mut sum = 0u16;
-        for row in 0..number_at(self.bytes, 6) as usize {
+        for row in 0..self.image().entries() as usize {
             sum += counted(self.series(row), quay);
         }
         sum
@@ -107,7 +107,7 @@ impl<'a> ClockFace<'a> {
         ensures { result ≡ slice_index_or (map Some (clock_sailings self.now.bytes.now)) place None }
     {
         let mut left = place;
-        for row in 0..number_at(self.bytes, 6) as usize {
+        for row in 0..self.image().entries() as usize {
             let count = self.members(row);
             if left < count {
                 return Some(member_of(self.series(row), left));
@@ -124,32 +124,28 @@ impl<'a> Book for ClockFace<'a> {
     ghost lawful = { λ b. clock_lawful b.bytes.now b.sound };
 
     fn quays(&self) -> u16 {
-        number_at(self.bytes, 4)
+        self.image().quays()
     }
 
     // Every sailing leaves one of the quays.
     fn places(&self) -> u16 {
-        self.leaving_below(number_at(self.bytes, 4) as u32)
+        self.leaving_below(self.image().quays() as u32)
     }
 
     fn change(&self, quay: u16) -> Result<u16, Refusal> {
-        change_in(self.bytes, quay)
+        self.image().change(quay)
     }
 
     fn place(&self, place: u16) -> Result<Option<Sailing>, Refusal> {
-        match self.member_at(place) {
-            Some(s) => Ok(Some(s)),
-            None => Err(Refusal::NoPlace),
-        }
+        let sailing = self.member_at(place).ok_or(Refusal::NoPlace)?;
+        Ok(Some(sailing))
     }
 
     fn span(&self, quay: u16) -> Result<Span, Refusal> {
-        if quay >= number_at(self.bytes, 4) {
-            return Err(Refusal::NoQuay);
-        }
+        let row = self.image().quay(quay)? as u32;
         Ok(Span {
-            start: self.leaving_below(quay as u32),
-            end: self.leaving_below(quay as u32 + 1),
+            start: self.leaving_below(row),
+            end: self.leaving_below(row + 1),
         })
     }
 }

@@ -18,11 +18,7 @@ use timetable::refusal::Refusal;
 use timetable::sailing::Sailing;
 use timetable::span::Span;
 
-// The image of one nameless quay with no places.
-static BLANK: [u8; 32] = [
-    14, 0, 1, 0, 1, 0, 0, 0, 0, 0, 0, 0, 0, 0, 0, 0, 14, 0, 3, 0, 0, 0, 32, 32, 32, 32, 32, 32, 32,
-    32, 32, 32,
-];
+static BLANK: [u8; 32] = blank!(1);
 
 impl<'a> Printed<'a> {
     // Opens an image. Bytes that are no printed image open as one nameless quay with no places.
@@ -35,10 +31,16 @@ impl<'a> Printed<'a> {
     fn over(bytes: &'a [u8]) -> Printed<'a>
         ensures { result.bytes.now ≡ (if is_ok (printed_check bytes.now) then bytes.now else blank_image 1) }
     {
-        if let Err(_) = check_printed(bytes) {
+        let Ok(()) = check_printed(bytes) else {
             return Printed { bytes: &BLANK };
-        }
+        };
         Printed { bytes }
+    }
+
+    fn image(&self) -> Image<'a, 16>
+        ensures { result.bytes.now ≡ self.now.bytes.now }
+    {
+        Image { bytes: self.bytes }
     }
 
     // The name of a quay, a part of the image without trailing spaces.
@@ -46,7 +48,7 @@ impl<'a> Printed<'a> {
         ensures value { result_map_both (λ x. x.now) (λ e. e) result ≡ asked (names_in self.now.bytes.now) quay [] NoQuay }
         ensures trims { (n : List ℕ) → result_map_both (λ x. x.now) (λ e. e) result ≡ Ok n → Trims (quay_at self.now.bytes.now quay).name n }
     {
-        name_in(self.bytes, quay)
+        self.image().name(quay)
     }
 
     // The quay that the sailing at a place leaves.
@@ -54,11 +56,7 @@ impl<'a> Printed<'a> {
         requires { place < entries_in self.now.bytes.now }
         ensures { result ≡ number_at self.now.bytes.now (entry_at 16 (quays_in self.now.bytes.now) place + 8) }
     {
-        let quays = number_at(self.bytes, 4);
-        number_at(
-            self.bytes,
-            16 * (1 + quays as usize) + 16 * place as usize + 8,
-        )
+        number_at(self.bytes, self.image().record(place as usize).at + 8)
     }
 
     // How many sailings leave a quay below this one: found by halving, since they stand by quay.
@@ -66,7 +64,7 @@ impl<'a> Printed<'a> {
         ensures { result ≡ below quay (sailings_of self.now.bytes.now) }
     {
         let mut lo = 0u16;
-        let mut hi = number_at(self.bytes, 6);
+        let mut hi = self.image().entries();
         while lo < hi {
             let mid = lo + (hi - lo) / 2;
             if (self.from_at(mid) as u32) < quay {
@@ -85,32 +83,30 @@ impl<'a> Book for Printed<'a> {
     ghost lawful = { λ b. printed_lawful b.bytes.now b.sound };
 
     fn quays(&self) -> u16 {
-        number_at(self.bytes, 4)
+        self.image().quays()
     }
 
     fn places(&self) -> u16 {
-        number_at(self.bytes, 6)
+        self.image().entries()
     }
 
     fn change(&self, quay: u16) -> Result<u16, Refusal> {
-        change_in(self.bytes, quay)
+        self.image().change(quay)
     }
 
     fn place(&self, place: u16) -> Result<Option<Sailing>, Refusal> {
-        let quays = number_at(self.bytes, 4);
-        if place >= number_at(self.bytes, 6) {
+        let image = self.image();
+        if place >= image.entries() {
             return Err(Refusal::NoPlace);
         }
-        Ok(Some(sailing_at(self.bytes, 16 * (1 + quays as usize) + 16 * place as usize)))
+        Ok(Some(image.record(place as usize).sailing()))
     }
 
     fn span(&self, quay: u16) -> Result<Span, Refusal> {
-        if quay >= number_at(self.bytes, 4) {
-            return Err(Refusal::NoQuay);
-        }
+        let row = self.image().quay(quay)? as u32;
         Ok(Span {
-            start: self.leaving_below(quay as u32),
-            end: self.leaving_below(quay as u32 + 1),
+            start: self.leaving_below(row),
+            end: self.leaving_below(row + 1),
         })
     }
 }

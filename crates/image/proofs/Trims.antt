@@ -1,22 +1,16 @@
 -- Names without trailing spaces. Assumes nothing.
-use Rattle.std.proofs.Common.{◌≡◌, ℕ, zero, suc, ◌-◌, ◌<◌, ◌≤◌, List, [], length, get_or, take, Ok, Err, sym, ap, ◌∙◌, subst, ⊎_elim, zero-add, arith, length-take}
+use Rattle.std.proofs.Common.{◌≡◌, ℕ, zero, suc, ◌-◌, ◌<◌, ◌≤◌, eqb, List, [], length, get_or, take, Ok, Err, sym, ap, ◌∙◌, subst, ⊎_elim, zero-add, arith, length-take}
 use lib.ListN.{length-map}
+use Rattle.std.specs.List.{suffix_len}
 use Rattle.std.proofs.lemmas.List.FromFn.{length-map-range_with_len, get_or-map-range_with_len}
 use Rattle.std.proofs.lemmas.List.{get_or-take, get_or-map}
 use Rattle.std.proofs.lemmas.Bool.{eq-eqb, ne_eqb, cases_eq, cases_lt}
+use Rattle.std.proofs.lemmas.List.Sums.{suffix_len_is}
 use Rattle.timetable.specs.Answers.{asked}
 use Rattle.timetable.specs.declared.refusal.Refusal.TheVariants.{NoQuay}
 use Rattle.timetable.proofs.Told.{asked_in, asked_out}
 use Rattle.image.specs.Records.{quays_in, quay_at, quays_of}
 use Rattle.image.specs.Names.{letters_left, trimmed, Trims, names_in}
-
-pub left_step : (xs : List ℕ) (n : ℕ) → 0 < n → get_or xs (n - 1) 0 ≡ 32 → letters_left xs n ≡ letters_left xs (n - 1)
-left_step xs zero l e = absurd (omega arith)
-left_step xs (suc n) l e = let j : suc n - 1 ≡ n = omega arith in rw (eq-eqb (get_or xs n 0) 32 (subst (λ k. get_or xs k 0 ≡ 32) j e), j)
-
-pub left_stop : (xs : List ℕ) (n : ℕ) → 0 < n → (get_or xs (n - 1) 0 ≡ 32 → ⊥) → letters_left xs n ≡ n
-left_stop xs zero l e = absurd (omega arith)
-left_stop xs (suc n) l e = let j : suc n - 1 ≡ n = omega arith in rw (ne_eqb (get_or xs n 0) 32 (subst (λ k. get_or xs k 0 ≡ 32 → ⊥) j e))
 
 left_le : (xs : List ℕ) (n : ℕ) → letters_left xs n ≤ n
 left_le xs zero = omega arith
@@ -37,6 +31,14 @@ left_solid xs (suc n) i a b =
     (λ e. left_solid xs n i (rw (eq-eqb (get_or xs n 0) 32 e) at a) b)
     (λ e. let c = rw (ne_eqb (get_or xs n 0) 32 e) at a in let s : i ≡ n = omega arith in e (ap (λ k. get_or xs k 0) (sym s) ∙ b))
     (cases_eq (get_or xs n 0) 32)
+
+-- the spaces that end a name are what it is trimmed by
+pub left_is : (xs : List ℕ) → length xs - suffix_len (λ b. eqb b 32) xs ≡ letters_left xs (length xs)
+left_is xs =
+    let n = letters_left xs (length xs) in
+    let low = left_le xs (length xs) in
+    let spaces = suffix_len_is (λ b. eqb b 32) xs n 0 low (λ k a b. eq-eqb (get_or xs k 0) 32 (left_spaces xs (length xs) k a b)) (λ l. let e : n ≡ suc (n - 1) = omega arith in ne_eqb (get_or xs (n - 1) 0) 32 (left_solid xs (length xs) (n - 1) e)) in
+    omega (arith, spaces, low)
 
 pub trims : (xs : List ℕ) → Trims xs (trimmed xs)
 trims xs =

@@ -1,6 +1,7 @@
-use Rattle.std.proofs.Common.{sym, ◌∙◌}
+use Rattle.std.proofs.Common.{sym, ap, ◌∙◌}
+use Rattle.image.specs.Records.{entries_in}
 use Rattle.image.proofs.Prints.{places_long}
 use Rattle.books.proofs.printed_book.PrintedBook.places.Goals as goal
 
 pub returns : goal.returns
-returns c = c.number_at.ensures ∙ sym (places_long c.args.self.now.bytes.now)
+returns c = c.entries.ensures ∙ ap entries_in c.image.ensures ∙ sym (places_long c.args.self.now.bytes.now)
