@@ -7,14 +7,15 @@ use Rattle.image.specs.declared.fault.Part.TheVariants.{Heading, Quays, Entries}
 use Rattle.timetable.specs.declared.refusal.Refusal.TheVariants.{OutOfLimits}
 use Rattle.image.specs.declared.quay.Quay.{Quay}
 use Rattle.timetable.specs.declared.sailing.Sailing.{Sailing}
-use Rattle.image.specs.Checks.{Check, unless, fault, up_to, heading, zero_byte, quay, name_byte, ends, from_before, times, sailing, ending, printed_check}
+use Rattle.image.specs.Checks.{Check, unless, fault, up_to, heading, zero_byte, quay, name_byte, ends, from_before, times, sailing, ending, letter_is, printed_check}
 use Rattle.image.specs.Records.{number_at, quay_start, entry_at, quays_in, entries_in}
 use Rattle.image.specs.Layout.{sailing_bytes}
 use Rattle.image.proofs.Good.{Frame, frame_right}
-use Rattle.image.proofs.Walks.{up_to_all}
+use Rattle.image.proofs.Walks.{up_to_all, up_to_same}
 use Rattle.image.proofs.Laid.{Laid, printed_laid, SailingRead, sailing_read, QuayRead, quay_read}
 use Rattle.binder.specs.declared.unbound.Unbound.TheVariants.{Faulty, ShortImage}
-use Rattle.binder.specs.Content.{sizes, letter, letter_is, sailing_of, no_quay, no_sailing, before, quay_row, sailing_row, content_check}
+use Rattle.image.specs.Content.{letter, sailing_of}
+use Rattle.binder.specs.Content.{sizes, no_quay, no_sailing, before, quay_row, sailing_row, content_check}
 use Rattle.binder.specs.Binding.{book_bytes, answer, bound}
 
 pub before_more : (xs : List Sailing) (row : ℕ) → (get_or xs row no_sailing).from ≡ before xs (row + 1)
@@ -22,17 +23,9 @@ before_more xs row =
     let e : row + 1 - 1 ≡ row = omega arith in
     rw (ne_eqb (row + 1) 0 (λ z. omega arith), e)
 
-up_to_same : (f g : ℕ → Check) (n : ℕ) → ((k : ℕ) → k < n → f k ≡ g k) → up_to f n ≡ up_to g n
-up_to_same f g zero h = refl
-up_to_same f g (suc n) h = rw (up_to_same f g n (λ k l. h k (omega arith)), h n (omega arith))
-
 then_ok : (r : Check) → result_and r (Ok tt) ≡ r
 then_ok (Ok x) = refl
 then_ok (Err e) = refl
-
-and_assoc : (r s t : Check) → result_and r (result_and s t) ≡ result_and (result_and r s) t
-and_assoc (Ok x) s t = refl
-and_assoc (Err e) s t = refl
 
 module _ (quays : List Quay) (xs : List Sailing) (bs : List ℕ) (e : bs ≡ book_bytes quays xs) where
   pub placed : Laid sailing_bytes 1 16 quays xs bs

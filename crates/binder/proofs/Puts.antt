@@ -1,13 +1,14 @@
 -- Writes into a buffer, one after another. Assumes nothing.
-use Rattle.std.proofs.Common.{◌≡◌, ℕ, ◌+◌, ◌*◌, ◌<◌, ◌≤◌, List, [], ◌++◌, length, get_or, take, drop, sym, refl, ap, ◌∙◌, append_assoc, zero-add, arith, length-append, take-append-drop}
+use Rattle.std.proofs.Common.{◌≡◌, ℕ, ◌+◌, ◌*◌, ◌/◌, ◌%◌, ◌<◌, ◌≤◌, List, [], ◌∷◌, ◌++◌, length, get_or, take, drop, sym, refl, ap, ◌∙◌, append_assoc, zero-add, arith, length-append, take-append-drop}
 use lib.Seq.{drop-append-add}
+use Rattle.std.specs.Int.{to_le_bytes, w16}
 use Rattle.std.specs.List.{flat_map, AllByRecursion as All}
 use Rattle.std.proofs.lemmas.List.{take_at, drop-drop, length-take-le, take_more, flat_map_more}
 use Rattle.std.proofs.ByRecursion.{All-take}
 use Rattle.image.proofs.Cuts.{length_joined}
 use Rattle.image.specs.declared.quay.Quay.{Quay}
 use Rattle.timetable.specs.declared.sailing.Sailing.{Sailing}
-use Rattle.image.specs.Layout.{heading_bytes, quay_bytes, sailing_bytes}
+use Rattle.image.specs.Layout.{two, heading_bytes, quay_bytes, sailing_bytes}
 use Rattle.image.proofs.Laid.{all_sized}
 use Rattle.binder.specs.Binding.{written, over, book_bytes}
 
@@ -31,11 +32,15 @@ written-written at n xs ys d e l =
     ∙ simp append_assoc
 
 -- one more row written
-pub row_written : {X : Type 0} (f : X → List ℕ) (xs : List X) (i start : ℕ) (x : X) (d : List ℕ) → All (λ x. length (f x) ≡ 16) xs → i < length xs → start ≤ length d → written (start + 16 * i) (f (get_or xs i x)) (written start (flat_map f (take i xs)) d) ≡ written start (flat_map f (take (i + 1) xs)) d
-row_written f xs i start x d h l s =
-    let long : length (flat_map f (take i xs)) ≡ 16 * i = length_joined f 16 (take i xs) (All-take (λ x. length (f x) ≡ 16) i xs h) ∙ ap (λ k. 16 * k) (length-take-le i xs (omega arith)) in
-    written-written start (start + 16 * i) (flat_map f (take i xs)) (f (get_or xs i x)) d (omega arith) s
+pub row_written : {X : Type 0} (f : X → List ℕ) (w : ℕ) (xs : List X) (i start : ℕ) (x : X) (d : List ℕ) → All (λ x. length (f x) ≡ w) xs → i < length xs → start ≤ length d → written (start + w * i) (f (get_or xs i x)) (written start (flat_map f (take i xs)) d) ≡ written start (flat_map f (take (i + 1) xs)) d
+row_written f w xs i start x d h l s =
+    let long : length (flat_map f (take i xs)) ≡ w * i = length_joined f w (take i xs) (All-take (λ x. length (f x) ≡ w) i xs h) ∙ ap (λ k. w * k) (length-take-le i xs (omega arith)) in
+    written-written start (start + w * i) (flat_map f (take i xs)) (f (get_or xs i x)) d (omega arith) s
     ∙ ap (λ t. written start t d) (flat_map_more f [] (take i xs) (get_or xs i x) ∙ ap (flat_map f) (sym (take_more xs i x l)))
+
+-- a number in two bytes
+pub two_bytes : (n : ℕ) → n < 65536 → to_le_bytes w16 n ≡ two n
+two_bytes n l = let e : n / 256 % 256 ≡ n / 256 = omega arith in ap (λ k. n % 256 ∷ k ∷ []) e
 
 -- heading, quays and sailings written one after another
 pub book_written : (quays : List Quay) (xs : List Sailing) (d : List ℕ) → 16 * (1 + length quays) + 16 * length xs ≤ length d → written (16 * (1 + length quays)) (flat_map sailing_bytes xs) (written 16 (flat_map quay_bytes quays) (written 0 (heading_bytes 1 (length quays) (length xs)) d)) ≡ over (book_bytes quays xs) d

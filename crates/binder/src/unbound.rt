@@ -1,5 +1,6 @@
 ghost use Rattle.std.specs.Prelude.{◌≡◌};
 ghost use Rattle.binder.specs.Binding.{refusal_of};
+ghost use Rattle.binder.specs.declared.unbound.Unbound.TheVariants.{Faulty};
 
 use image::fault::Fault;
 use timetable::refusal::Refusal;
@@ -11,6 +12,14 @@ pub enum Unbound {
     Faulty(Fault),
     // the buffer is shorter than the image
     ShortImage,
+}
+
+impl From<Fault> for Unbound {
+    ghost from_gives = { λ f u. u ≡ Faulty f };
+
+    fn from(fault: Fault) -> Unbound {
+        Unbound::Faulty(fault)
+    }
 }
 
 impl Unbound {

@@ -9,7 +9,6 @@ pub returns : goal.returns
 returns c =
     let quays = c.args.quays.now in
     let xs = c.args.sailings.now in
-    let d = c.args.image.now in
-    c.write_sailings.ensures
-    ∙ ap (written (16 * (1 + length quays)) (flat_map sailing_bytes xs)) (c.write_quays.ensures ∙ ap (written 16 (flat_map quay_bytes quays)) (c.put.ensures ∙ ap (λ r. written 0 r d) c.heading_record.ensures))
-    ∙ book_written quays xs d (omega (arith, c.requires))
+    c.put_rows-2.ensures
+    ∙ ap (written (16 * (1 + length quays)) (flat_map sailing_bytes xs)) (c.put_rows.ensures ∙ ap (written 16 (flat_map quay_bytes quays)) c.put_heading.ensures)
+    ∙ book_written quays xs c.args.image.now (omega (arith, c.requires))

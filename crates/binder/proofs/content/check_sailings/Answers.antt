@@ -2,7 +2,8 @@ use Rattle.std.proofs.Common.{length, get_or, sym, ap, ◌∙◌}
 use Rattle.std.proofs.lemmas.Result.{err_from_is_err_and}
 use Rattle.image.specs.Records.{entry_at}
 use Rattle.image.proofs.Walks.{up_to_more, up_to-fault}
-use Rattle.binder.specs.Content.{sailing_row, sailing_of, no_sailing}
+use Rattle.image.specs.Content.{sailing_of}
+use Rattle.binder.specs.Content.{sailing_row, no_sailing}
 use Rattle.binder.proofs.Checked.{before_more}
 use Rattle.binder.proofs.content.check_sailings.Goals as goal
 
