@@ -6,7 +6,7 @@ use image::fault::Fault;
 use timetable::refusal::Refusal;
 
 // Why a book was not bound.
-#[derive(Clone, Copy)]
+#[derive(Clone, Copy, PartialEq, Debug)]
 pub enum Unbound {
     // what is wrong with it, told as the check of its image would tell it
     Faulty(Fault),

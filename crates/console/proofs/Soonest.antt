@@ -119,7 +119,4 @@ module _ (t : Timetable) (q u : ℕ) where
   earliest_soon law m h =
       let s = h.sailing in
       omega (arith, next_soon s (law.within h.from.place s h.from.there).dep_day u, h.attained)
-
   -- so does what the walk finds
-  pub told_soon : Lawful t → (m : ℕ) → Some m ≡ soonest t.places q u (length t.places) → m < u + day
-  told_soon law m e = earliest_soon law m (some_told m (sym e))

@@ -18,11 +18,6 @@ abbrev pub departure : Option Sailing → ℕ → ℕ → Option ℕ
 departure None q u = None
 departure (Some s) q u = cond (s.from == q) (Some (next s u)) None
 
--- the same of what a book answers
-abbrev pub departing_at : Result (Option Sailing) Refusal → ℕ → ℕ → Option ℕ
-departing_at (Ok x) q u = departure x q u
-departing_at (Err e) q u = None
-
 abbrev pub sooner : Option ℕ → Option ℕ → Option ℕ
 sooner None n = n
 sooner (Some m) None = Some m

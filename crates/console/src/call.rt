@@ -21,10 +21,9 @@ fn earliest_of(image: &[u8], quay: u16, minute: u16, room: usize) -> Result<Opti
     ensures value { result ≡ told_of (image_check image.now) image.now quay minute room }
     ensures fits { (m : ℕ) → result ≡ Ok (Some m) → 4 ≤ room }
 {
-    match check_image(image) {
-        Err(fault) => Err(fault.refusal),
-        Ok(Kind::Printed) => earliest_in(&Printed::open(image), quay, minute, room),
-        Ok(Kind::ClockFace) => earliest_in(&ClockFace::open(image), quay, minute, room),
+    match check_image(image)? {
+        Kind::Printed => earliest_in(&Printed::open(image), quay, minute, room),
+        Kind::ClockFace => earliest_in(&ClockFace::open(image), quay, minute, room),
     }
 }
 

@@ -1,60 +1,53 @@
 //! The earliest departure from a quay of any book.
-ghost use Rattle.std.specs.Prelude.{◌≡◌, length, Ok};
+ghost use Rattle.std.specs.Prelude.{◌≡◌, ◌-◌, length, min, Ok};
+ghost use Rattle.std.specs.List.{filter_map, reduce, range_with_len};
+ghost use Rattle.timetable.specs.Timetables.{place_at};
 ghost use Rattle.timetable.specs.Answers.{span_of};
-ghost use Rattle.console.specs.Told.{departing_at, sooner, soonest, call_check, told_in};
+ghost use Rattle.console.specs.Told.{departure, soonest, call_check, told_in};
 
 use timetable::book::Book;
+use timetable::limits::LAST_MINUTE;
 use timetable::refusal::Refusal;
 use timetable::sailing::Sailing;
 use timetable::span::Span;
-
-// The last minute of a day.
-const LAST: u16 = 1439;
 
 // The bytes that a departure takes.
 const WIDTH: usize = 4;
 
 // The next departure of what stands at a place, if that is a sailing from the quay.
-fn departing(found: Result<Option<Sailing>, Refusal>, quay: u16, minute: u32) -> Option<u64>
-    ensures { result ≡ departing_at found quay minute }
+fn departing(found: Option<Sailing>, quay: u16, minute: u16) -> Option<u32>
+    ensures { result ≡ departure found quay minute }
 {
-    let Ok(Some(s)) = found else {
-        return None;
-    };
+    let s = found?;
     if s.from == quay {
-        Some(s.next_departure(minute))
+        Some(s.next_departure(minute as u32) as u32)
     } else {
         None
     }
 }
 
-fn earlier(best: Option<u64>, other: Option<u64>) -> Option<u64>
-    ensures { result ≡ sooner best other }
+// The earliest departure of the sailings at the places of a span.
+fn earliest_at<B: Book>(book: &B, span: Span, quay: u16, minute: u16) -> Option<u32>
+    ensures { result ≡ reduce min (filter_map (λ p. departure (place_at (B.meaning book.now) p) quay minute) (range_with_len span.start (span.end - span.start))) }
 {
-    match (best, other) {
-        (Some(m), Some(n)) => Some(m.min(n)),
-        (Some(m), None) => Some(m),
-        (None, n) => n,
-    }
+    (span.start..span.end)
+        .filter_map(|place| departing(book.sailing_at(place), quay, minute))
+        .min()
 }
 
 // Every sailing from a quay stands within its span, so no other place is asked for.
-fn earliest_within<B: Book>(book: &B, span: Span, quay: u16, minute: u32) -> Option<u64>
+fn earliest_within<B: Book>(book: &B, span: Span, quay: u16, minute: u16) -> Option<u32>
     requires { Ok span ≡ span_of (B.meaning book.now) quay }
     ensures { result ≡ soonest (B.meaning book.now).places quay minute (length (B.meaning book.now).places) }
 {
-    let mut best = None;
-    for place in span.start..span.end {
-        best = earlier(best, departing(book.place(place), quay, minute));
-    }
-    best
+    earliest_at(book, span, quay, minute)
 }
 
 // What is asked of the minute and of the room for the answer.
 fn check_call(minute: u16, room: usize) -> Result<(), Refusal>
     ensures { result ≡ call_check minute room }
 {
-    if minute > LAST {
+    if minute > LAST_MINUTE {
         return Err(Refusal::LateMinute);
     }
     if room < WIDTH {
@@ -74,8 +67,5 @@ pub(crate) fn earliest_in<B: Book>(
 {
     let span = book.span(quay)?;
     check_call(minute, room)?;
-    match earliest_within(book, span, quay, minute as u32) {
-        Some(m) => Ok(Some(m as u32)),
-        None => Ok(None),
-    }
+    Ok(earliest_within(book, span, quay, minute))
 }

@@ -4,11 +4,12 @@ ghost use Rattle.std.specs.Result.{result_and};
 ghost use Rattle.image.specs.Records.{number_at, entry_at};
 ghost use Rattle.image.specs.Checks.{rhythm_is, keeps, counts_are, series, places_to, up_to};
 
-use crate::content::{LAST_MINUTE, check_ends};
+use crate::content::check_ends;
 use crate::fault::*;
 use crate::record::{RecordKind, check_frame};
 use crate::series::Series;
 use crate::spot::Spot;
+use timetable::limits::{LAST_MINUTE, MOST_PLACES};
 use timetable::refusal::Refusal;
 
 const MOST_MEMBERS: u16 = 1440;
@@ -29,8 +30,8 @@ fn all_kept(s: Series, before: u32) -> bool
     requires { before ≤ 3072 }
     ensures { result ≡ keeps s.run s.first s.period s.count before }
 {
-    s.first as u64 + (s.count as u64).saturating_sub(1) * s.period as u64 <= 1439
-        && (s.run as u32 + s.count as u32 <= 65536 && before + s.count as u32 <= 3072)
+    s.first as u64 + (s.count as u64).saturating_sub(1) * s.period as u64 <= LAST_MINUTE as u64
+        && (s.run as u32 + s.count as u32 <= 65536 && before + s.count as u32 <= MOST_PLACES as u32)
 }
 
 // The count and the length of a series, before whose members stand `before` others.

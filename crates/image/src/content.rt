@@ -7,12 +7,9 @@ ghost use Rattle.image.specs.Content.{letter, quay_of, sailing_of};
 use crate::fault::*;
 use crate::quay::Quay;
 use crate::spot::Spot;
+use timetable::limits::{LAST_MINUTE, MOST_QUAYS};
 use timetable::refusal::Refusal;
 use timetable::sailing::Sailing;
-
-pub(crate) const LAST_MINUTE: u16 = 1439;
-
-const MOST_QUAYS: usize = 256;
 
 const FIRST_LETTER: u8 = 32;
 
@@ -27,7 +24,11 @@ pub fn check_sizes(kind: Kind, quays: usize, entries: usize) -> Result<(), Fault
         row: 0,
         at: 0,
     };
-    spot.require(quays >= 1 && quays <= MOST_QUAYS, Refusal::OutOfLimits, 4)?;
+    spot.require(
+        quays >= 1 && quays <= MOST_QUAYS as usize,
+        Refusal::OutOfLimits,
+        4,
+    )?;
     spot.require(
         entries <= kind.most_entries() as usize,
         Refusal::OutOfLimits,

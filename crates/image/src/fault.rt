@@ -2,6 +2,7 @@ ghost use Rattle.std.specs.Prelude.{◌≡◌};
 ghost use Rattle.image.specs.Parts.{part_number};
 ghost use Rattle.image.specs.Checks.{most_entries, entry_wide};
 
+use timetable::limits::MOST_PLACES;
 use timetable::refusal::Refusal;
 
 // The two kinds of image.
@@ -17,7 +18,7 @@ impl Kind {
         ensures { result ≡ most_entries self }
     {
         match self {
-            Kind::Printed => 3072,
+            Kind::Printed => MOST_PLACES,
             Kind::ClockFace => 512,
         }
     }
@@ -34,7 +35,7 @@ impl Kind {
 }
 
 // The parts of an image, in their order and with their numbers. What follows the last record is the end.
-#[derive(Clone, Copy)]
+#[derive(Clone, Copy, PartialEq, Debug)]
 pub enum Part {
     Heading = 1,
     Quays = 2,
@@ -51,10 +52,18 @@ impl Part {
 }
 
 // What is wrong with an image, and where: the byte, and the row of its part, each counted from 0.
-#[derive(Clone, Copy)]
+#[derive(Clone, Copy, PartialEq, Debug)]
 pub struct Fault {
     pub refusal: Refusal,
     pub byte: usize,
     pub part: Part,
     pub row: usize,
+}
+
+impl From<Fault> for Refusal {
+    ghost from_gives = { λ f r. r ≡ f.refusal };
+
+    fn from(fault: Fault) -> Refusal {
+        fault.refusal
+    }
 }

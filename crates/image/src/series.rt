@@ -1,5 +1,5 @@
 // Sailings a period apart, each of the run after that of the one before.
-#[derive(Clone, Copy)]
+#[derive(Clone, Copy, PartialEq, Debug)]
 pub struct Series {
     pub run: u16,
     pub leg: u16,
