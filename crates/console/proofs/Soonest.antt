@@ -119,4 +119,3 @@ module _ (t : Timetable) (q u : ℕ) where
   earliest_soon law m h =
       let s = h.sailing in
       omega (arith, next_soon s (law.within h.from.place s h.from.there).dep_day u, h.attained)
-  -- so does what the walk finds
