@@ -1,17 +1,9 @@
 -- Lists of numbers that hold what a test says. Assumes nothing.
-use Rattle.std.proofs.Common.{◌≡◌, ℕ, zero, suc, ◌<◌, ◌≤◌, Bool, true, false, cond, ◌&&◌, eqb, List, [], ◌∷◌, ◌++◌, length, sym, refl, ap, ◌∙◌, subst, ap₂, ⊎_elim, arith}
+use Rattle.std.proofs.Common.{◌≡◌, ℕ, zero, suc, ◌<◌, ◌≤◌, Bool, true, false, cond, eqb, List, [], ◌∷◌, ◌++◌, length, sym, refl, ap, ◌∙◌, subst, ap₂, ⊎_elim, arith}
 use Rattle.std.proofs.lemmas.Bool.{true≢false, false≢true, cases_Bool, cases_lt, cond-true, cond-false, eqb-true, eqb-false, eq-eqb, ne_eqb}
 use Rattle.tables.specs.Lists.{has, without, many}
 use Rattle.tables.proofs.Counts.{many_same}
 use Rattle.board.specs.Kept.{Distinct, Lists}
-
-pub and_true : (b : Bool) → (b && true) ≡ b
-and_true true = refl
-and_true false = refl
-
-pub and_false : (b : Bool) → (b && false) ≡ false
-and_false true = refl
-and_false false = refl
 
 has_push : (x y : ℕ) (xs : List ℕ) → has x (xs ++ (y ∷ [])) ≡ cond (eqb x y) true (has x xs)
 has_push x y [] = refl
@@ -60,7 +52,7 @@ unfolding many
 many_below f g zero h = refl
 many_below f g (suc n) h = ap₂ (λ (b : Bool) (m : ℕ). cond b (suc m) m) (h n (omega arith)) (many_below f g n (λ x k. h x (omega arith)))
 
-many_false : (n : ℕ) → many (λ x. false) n ≡ 0
+pub many_false : (n : ℕ) → many (λ x. false) n ≡ 0
 unfolding many
 many_false zero = refl
 many_false (suc n) = many_false n

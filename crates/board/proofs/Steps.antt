@@ -1,6 +1,7 @@
 -- One event more: what a board keeps true of its history. Assumes nothing.
 use Rattle.std.proofs.Common.{◌≡◌, ℕ, zero, suc, ◌<◌, Bool, true, false, cond, ◌||◌, eqb, ltb, List, [], ◌∷◌, ◌++◌, length, get_or, replicate, Ok, Err, Option, Result, sym, refl, ap, ◌∙◌, subst, ap₂}
 use Rattle.std.proofs.lemmas.Bool.{false≢true, ltb-true}
+use Rattle.std.proofs.Math.Bool.{and-true, and-false}
 use Rattle.timetable.specs.declared.query.Query.{Query}
 use Rattle.timetable.specs.declared.refusal.Refusal.{Refusal}
 use Rattle.timetable.specs.declared.refusal.Refusal.TheVariants.{RunWithheld, RunNotWithheld, RunsFull, QuayShut, QuayNotShut, QuaysFull, NoQuay}
@@ -23,7 +24,7 @@ use Rattle.board.specs.Force.{for_run, for_quay, forbids, withheld, is_shut, all
 use Rattle.board.specs.Answers.{SameRows, Right}
 use Rattle.board.specs.States.{State, no_marks, opening, standing, on_withhold, on_release, on_shut, on_open, noted, after_withhold, after_release, after_shut, after_open, AfterThin}
 use Rattle.board.specs.Kept.{Lists, Kept, Carries, CarriesOn}
-use Rattle.board.proofs.Holds.{and_true, and_false, lists_many, lists_same, lists_push, lists_without, lists_none}
+use Rattle.board.proofs.Holds.{lists_many, lists_same, lists_push, lists_without, lists_none}
 
 unmarked : (n p : ℕ) → get_or (replicate n false) p false ≡ false
 unmarked zero p = refl
@@ -56,8 +57,8 @@ module _ (t : Timetable) (h : History) (s : State) (k : Kept t h s) where
   refused : (c : Call) (e : Refusal) (lent : Lent) → Right t h (event c (Notice (Err e)) lent lent) → Kept t (h then event c (Notice (Err e)) lent lent) s
   refused c e lent right =
       let ev = event c (Notice (Err e)) lent lent in
-      let run_is : (x : ℕ) → withheld (h then ev) x ≡ withheld h x = λ x. ap (λ b. cond b (forbids c) (withheld h x)) (and_false (for_run c x)) in
-      let quay_is : (x : ℕ) → is_shut (h then ev) x ≡ is_shut h x = λ x. ap (λ b. cond b (forbids c) (is_shut h x)) (and_false (for_quay c x)) in
+      let run_is : (x : ℕ) → withheld (h then ev) x ≡ withheld h x = λ x. ap (λ b. cond b (forbids c) (withheld h x)) (and-false (for_run c x)) in
+      let quay_is : (x : ℕ) → is_shut (h then ev) x ≡ is_shut h x = λ x. ap (λ b. cond b (forbids c) (is_shut h x)) (and-false (for_quay c x)) in
       let same : book_in_force t (h then ev) ≡ book_in_force t h =
       hide_same (out_of_force (h then ev)) (out_of_force h) (λ p x. ap₂ ◌||◌ (run_is x.run) (ap₂ ◌||◌ (quay_is x.from) (quay_is x.to))) t in
       record {
@@ -103,7 +104,7 @@ module _ (t : Timetable) (h : History) (s : State) (k : Kept t h s) where
       go true f e right = refused (Withhold run) RunWithheld lent right
       go false false e right = refused (Withhold run) RunsFull lent right
       go false true e right = accepts (Withhold run) lent (s.runs ++ (run ∷ [])) s.quays right
-          (lists_push (withheld h) all_runs s.runs k.runs run lt e _ (λ x. ap (λ b. cond b true (withheld h x)) (and_true (eqb x run)))) k.quays
+          (lists_push (withheld h) all_runs s.runs k.runs run lt e _ (λ x. ap (λ b. cond b true (withheld h x)) (and-true (eqb x run)))) k.quays
 
   released_kept : (run : ℕ) (lent : Lent) → Kept t (h then event (Release run) (Notice (on_release s run)) lent lent) (after_release s run)
   released_kept run lent =
@@ -113,7 +114,7 @@ module _ (t : Timetable) (h : History) (s : State) (k : Kept t h s) where
           let a : Reply = cond b (Ok tt) (Err RunNotWithheld) in
           Right t h (event (Release run) (Notice a) lent lent) → Kept t (h then event (Release run) (Notice a) lent lent) (noted s a (without run s.runs) s.quays)
       go true right = accepts (Release run) lent (without run s.runs) s.quays right
-          (lists_without (withheld h) all_runs s.runs k.runs run _ (λ x. ap (λ b. cond b false (withheld h x)) (and_true (eqb x run)))) k.quays
+          (lists_without (withheld h) all_runs s.runs k.runs run _ (λ x. ap (λ b. cond b false (withheld h x)) (and-true (eqb x run)))) k.quays
       go false right = refused (Release run) RunNotWithheld lent right
 
   shut_kept : (quay : ℕ) (lent : Lent) → Kept t (h then event (Shut quay) (Notice (on_shut s quay)) lent lent) (after_shut s quay)
@@ -132,7 +133,7 @@ module _ (t : Timetable) (h : History) (s : State) (k : Kept t h s) where
       go true false false i e right = refused (Shut quay) QuaysFull lent right
       go true false true i e right = accepts (Shut quay) lent s.runs (s.quays ++ (quay ∷ [])) right k.runs
           (lists_push (is_shut h) (length t.changes) s.quays k.quays quay
-          (subst (λ (n : ℕ). quay < n) quays_are (ltb-true _ _ i)) e _ (λ x. ap (λ b. cond b true (is_shut h x)) (and_true (eqb x quay))))
+          (subst (λ (n : ℕ). quay < n) quays_are (ltb-true _ _ i)) e _ (λ x. ap (λ b. cond b true (is_shut h x)) (and-true (eqb x quay))))
 
   opened_kept : (quay : ℕ) (lent : Lent) → Kept t (h then event (Open quay) (Notice (on_open s quay)) lent lent) (after_open s quay)
   opened_kept quay lent =
@@ -148,7 +149,7 @@ module _ (t : Timetable) (h : History) (s : State) (k : Kept t h s) where
       go false b right = refused (Open quay) NoQuay lent right
       go true false right = refused (Open quay) QuayNotShut lent right
       go true true right = accepts (Open quay) lent s.runs (without quay s.quays) right k.runs
-          (lists_without (is_shut h) (length t.changes) s.quays k.quays quay _ (λ x. ap (λ b. cond b false (is_shut h x)) (and_true (eqb x quay))))
+          (lists_without (is_shut h) (length t.changes) s.quays k.quays quay _ (λ x. ap (λ b. cond b false (is_shut h x)) (and-true (eqb x quay))))
 
   thinned_kept : (after : State) (lent : Lent) → AfterThin s after → Kept t (h then event Thin (Count (dominated_in (standing s))) lent lent) after
   thinned_kept after lent th =

@@ -1,5 +1,5 @@
 //! Strings of calls on a board.
-ghost use Rattle.std.specs.Prelude.{◌≡◌, ◌≤◌, min, length, take, drop, IfOk};
+ghost use Rattle.std.specs.Prelude.{◌≡◌, ◌≤◌, min, length, take, drop, IfOk, OnErr};
 ghost use Rattle.routing.specs.Route.{lent};
 ghost use Rattle.board.specs.History.{event};
 ghost use Rattle.board.specs.Kept.{Carries};
@@ -59,7 +59,7 @@ pub fn replay_into<B: Book + Drop, L: Line>(
     count
 }
 
-// The same with all answers in memory of its own, where there is enough.
+// The same with all answers in memory of its own. Where there is not enough for them, no call is made.
 pub fn replay<B: Book + Drop, L: Line>(
     heap: Global,
     opened: B,
@@ -68,7 +68,8 @@ pub fn replay<B: Book + Drop, L: Line>(
     legs: &mut [Leg],
     calls: &[Call],
 ) -> Result<Vec<Answer>, AllocError>
-    ensures { IfOk result (λ v. Replayed (B.meaning opened) calls.now v.items (lent (L.keys line.old) labels.old legs.old) (lent (L.keys line.new) labels.new legs.new)) }
+    ensures law { IfOk result (λ v. Replayed (B.meaning opened) calls.now v.items (lent (L.keys line.old) labels.old legs.old) (lent (L.keys line.new) labels.new legs.new)) }
+    ensures lack { OnErr result (lent (L.keys line.new) labels.new legs.new ≡ lent (L.keys line.old) labels.old legs.old) }
 {
     let mut answers = vec![in heap; Answer::Count(0); calls.len()]?;
     replay_into(opened, line, labels, legs, calls, answers.as_mut_slice());

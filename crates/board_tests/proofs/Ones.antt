@@ -14,6 +14,7 @@ use Rattle.board.specs.declared.calls.Answer.TheVariants.{Notice, Count, Told}
 use Rattle.board.specs.History.{event, History, new, ◌then◌}
 use Rattle.board.specs.Force.{all_runs, out_of_force, book_in_force}
 use Rattle.board.specs.States.{State}
+use Rattle.board.proofs.Holds.{many_false}
 use Rattle.board.specs.Kept.{Kept, Carries, CarriesOn}
 use Rattle.board_tests.specs.Without.{RoutedWithout}
 
@@ -23,15 +24,10 @@ told_same x y e = cc
 notice_same : (x y : Reply) → Notice x ≡ Notice y → x ≡ y
 notice_same x y e = cc
 
-none_yet : (n : ℕ) → many (λ x. false) n ≡ 0
-unfolding many
-none_yet zero = refl
-none_yet (suc n) = none_yet n
-
 module _ (t : Timetable) (run : ℕ) (q : Query) (given left : Lent) (a : Reply) (n : ℕ) (r : Result (Option Found) Refusal) where
   -- the first notice on a new board is accepted
   taken : a ≡ withhold_answer false (many (λ x. false) all_runs) → a ≡ Ok tt
-  taken e = e ∙ ap (withhold_answer false) (none_yet all_runs)
+  taken e = e ∙ ap (withhold_answer false) (many_false all_runs)
 
   run_is : a ≡ Ok tt → (x : ℕ) → cond (eqb x run && is_ok a) true false ≡ eqb x run
   run_is e x =

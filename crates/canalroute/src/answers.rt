@@ -2,7 +2,7 @@
 ghost use Rattle.std.specs.Prelude.{◌≡◌};
 ghost use Rattle.canalroute.specs.Texts.{refusal_text, notice_text, route_text, first_text, leg_text};
 
-use anyhow::anyhow;
+use anyhow::{anyhow, bail};
 use board::calls::Answer;
 use routing::found::Found;
 use std::io::Write;
@@ -85,8 +85,8 @@ pub(crate) fn print_answer<B: Book>(
     print_text(rt, first_text(answer))?;
     if let Answer::Told(Ok(Some(found))) = answer {
         for leg in legs.iter().take(found.legs as usize) {
-            let Ok(Some(sailing)) = book.place(leg.place) else {
-                return Err(anyhow!("a leg of the journey is not in the book"));
+            let Some(sailing) = book.sailing_at(leg.place) else {
+                bail!("a leg of the journey is not in the book");
             };
             print_text(rt, leg_text(sailing, *leg))?;
         }

@@ -1,6 +1,8 @@
 -- The table of worked cases as one computed test. Assumes nothing.
-use Rattle.std.proofs.Common.{◌≡◌, ℕ, Bool, true, ◌&&◌, List, [], ◌∷◌, map, Some, None, Option, refl}
-use Rattle.std.specs.List.{AllByRecursion}
+use Rattle.std.proofs.Common.{◌≡◌, ℕ, Bool, true, List, [], ◌∷◌, map, Some, None, Option, refl}
+use Rattle.std.specs.List.{All, list_all}
+use Rattle.std.proofs.lemmas.List.Elements.{All-weaker}
+use Rattle.std.proofs.lemmas.List.Sums.{AllPass-from_list_all}
 use Rattle.std.proofs.lemmas.Bool.{and_parts, false≢true}
 use Rattle.timetable.specs.declared.query.Query.{Query}
 use Rattle.timetable.specs.declared.query.Leg.{Leg}
@@ -36,14 +38,12 @@ row_holds c =
 
 -- the test of the whole table
 abbrev pub table_holds : List Case → Bool
-table_holds [] = true
-table_holds (c ∷ cases) = row_holds c && table_holds cases
+table_holds cases = list_all row_holds cases
 
-pub table_right : (cases : List Case) → table_holds cases ≡ true → AllByRecursion Right cases
-table_right [] h = tt
-table_right (c ∷ cases) h =
-    let both = and_parts (row_holds c) _ h in
-    (answered (book_for c.change c.shut) c.query c.arrival c.plan.now _ both.0, table_right cases both.1)
+pub table_right : (cases : List Case) → table_holds cases ≡ true → All Right cases
+table_right cases h =
+    All-weaker (λ c. row_holds c ≡ true) Right (λ c e. answered (book_for c.change c.shut) c.query c.arrival c.plan.now _ e) cases
+    (AllPass-from_list_all row_holds cases h)
 
 pub worked : (cases : List Case) → map question_of cases ≡ questions → table_holds cases ≡ true → Worked cases
 worked cases e h = record {

@@ -1,6 +1,6 @@
 -- The worked cases, and what makes the answers to them right. Assumes nothing.
 use Rattle.std.specs.Prelude.{◌≡◌, ℕ, List, [], ◌∷◌, map, Some, None, Option}
-use Rattle.std.specs.List.{AllByRecursion}
+use Rattle.std.specs.List.{All}
 use Rattle.timetable.specs.declared.query.Query.{Query}
 use Rattle.timetable.specs.declared.query.Leg.{Leg}
 use Rattle.timetable.specs.Timetables.{Timetable}
@@ -60,6 +60,6 @@ Right c = Answered (book_for c.change c.shut) c.query c.arrival c.plan.now
 -- the cases put just the questions, and each is right; the definitions alone decide each arrival
 pub record Worked (cases : List Case) : Type 0 where
   pub asked : map question_of cases ≡ questions
-  pub right : AllByRecursion Right cases
+  pub right : All Right cases
   -- the case of quay 3 at any minute, and with any class: nothing leaves it
   pub never : (minute class : ℕ) → NoJourney (mill 30) (asks 3 0 minute class)

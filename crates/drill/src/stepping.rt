@@ -64,13 +64,13 @@ fn compare(
     i: usize,
     answer: Answer,
     computed: Outcome,
-    replayed: Option<&Answer>,
+    replayed: Answer,
     legs_right: bool,
 ) -> anyhow::Result<()> {
     let told = Outcome::from(answer);
     let fault = if told != computed {
         "another answer"
-    } else if replayed != Some(&answer) {
+    } else if replayed != answer {
         "another answer in the replay"
     } else if !legs_right {
         "wrong rows of legs"
@@ -103,7 +103,7 @@ impl<'a> Stepper<'a> {
     }
 
     // Makes call `i` on the board and on the plain sets, and compares. Tells the answer.
-    fn step(&mut self, i: usize, call: Call, replayed: Option<&Answer>) -> anyhow::Result<Answer> {
+    fn step(&mut self, i: usize, call: Call, replayed: Answer) -> anyhow::Result<Answer> {
         self.lent.legs.fill(blank_leg(i));
         let answer = apply(
             &mut self.board,
@@ -125,8 +125,8 @@ impl<'a> Stepper<'a> {
         answers: &[Answer],
         tally: &mut Tally,
     ) -> anyhow::Result<()> {
-        for (i, call) in calls.iter().enumerate() {
-            tally.count(self.step(i, *call, answers.get(i))?);
+        for (i, (call, replayed)) in calls.iter().zip(answers).enumerate() {
+            tally.count(self.step(i, *call, *replayed)?);
         }
         tally.count_board();
         Ok(())
