@@ -5,10 +5,7 @@ ghost use Rattle.console.specs.Told.{told_of, code_of, left_by};
 ghost use Rattle.console.specs.Answers.{four_bytes, Answers, OneAnswer};
 
 use crate::earliest::earliest_in;
-use books::clock_face::ClockFace;
-use books::printed::Printed;
-use image::check::check_image;
-use image::fault::Kind;
+use books::opened::Opened;
 use timetable::refusal::Refusal;
 
 // The code of a departure. Every code but this and the next is the number of a refusal.
@@ -21,9 +18,9 @@ fn earliest_of(image: &[u8], quay: u16, minute: u16, room: usize) -> Result<Opti
     ensures value { result ≡ told_of (image_check image.now) image.now quay minute room }
     ensures fits { (m : ℕ) → result ≡ Ok (Some m) → 4 ≤ room }
 {
-    match check_image(image)? {
-        Kind::Printed => earliest_in(&Printed::open(image), quay, minute, room),
-        Kind::ClockFace => earliest_in(&ClockFace::open(image), quay, minute, room),
+    match Opened::open(image)? {
+        Opened::Printed(book) => earliest_in(&book, quay, minute, room),
+        Opened::ClockFace(book) => earliest_in(&book, quay, minute, room),
     }
 }
 
