@@ -10,7 +10,9 @@ use Rattle.timetable.proofs.Laws.{next_least, next_mono}
 use Rattle.journey.specs.Journeys.{wait, Stand, start, after, Leads}
 use Rattle.journey.proofs.Follows.{leads_forward}
 use Rattle.routing.specs.declared.trip.Trip.{Trip}
-use Rattle.routing.specs.Labels.{Status, Unseen, Waiting, Settled, look, ride_of}
+use Rattle.routing.specs.declared.label.Label.{Label}
+use Rattle.routing.specs.declared.label.Label.TheVariants.{Unseen, Waiting, Settled}
+use Rattle.routing.specs.Labels.{look, ride_of}
 use Rattle.routing.specs.Trips.{Makes}
 use Rattle.routing.specs.Invariants.{LeavesBy, Inv, Covers, Closed, Sooner}
 
@@ -24,17 +26,17 @@ stands_inside T p s e = elim (cases_lt p (length T.places)) [
 pub same_sailing : (T : Timetable) (p : ℕ) (s r : Sailing) → place_at T p ≡ Some s → place_at T p ≡ Some r → s ≡ r
 same_sailing T p s r d e = cc
 
-pub leaves_later : (l : Status) (m n : ℕ) → m ≤ n → LeavesBy l m → LeavesBy l n
+pub leaves_later : (l : Label) (m n : ℕ) → m ≤ n → LeavesBy l m → LeavesBy l n
 leaves_later Unseen m n h w = w
 leaves_later (Waiting ride) m n h w = omega arith
 leaves_later (Settled ride) m n h w = omega arith
 
 -- who may leave later is covered too
-pub covers_later : (T : Timetable) (c : ℕ) (ls : List Status) (r : Sailing) (m n k : ℕ) → m ≤ n → Covers T ls (after T c r m) 0 k → Covers T ls (after T c r n) 0 k
+pub covers_later : (T : Timetable) (c : ℕ) (ls : List Label) (r : Sailing) (m n k : ℕ) → m ≤ n → Covers T ls (after T c r m) 0 k → Covers T ls (after T c r n) 0 k
 covers_later T c ls r m n k h covers p s a b e f =
     leaves_later (look ls p) _ _ (next_mono s (m + wait T c r s) (n + wait T c r s) (omega arith)) (covers p s a b e f)
 
-module _ (T : Timetable) (q : Trip) (ls : List Status) (floor count : ℕ) (inv : Inv T q ls floor count) (closed : Closed T q ls) where
+module _ (T : Timetable) (q : Trip) (ls : List Label) (floor count : ℕ) (inv : Inv T q ls floor count) (closed : Closed T q ls) where
   -- from a stand that is covered, each journey to the end is led past a waiting place
   pub sooner : (here : Stand) (legs : List Leg) (a : ℕ) → Covers T ls here 0 (length T.places)
       → ((s : Sailing) → here.minute ≤ here.due s) → (here.quay ≡ q.to → ⊥) → Leads T q.extra here legs q.to a → Sooner ls a
@@ -47,7 +49,7 @@ module _ (T : Timetable) (q : Trip) (ls : List Status) (floor count : ℕ) (inv 
       let again = sooner (after T q.extra s leg.arrives) legs a in
       go (look ls p) refl (covers p s (omega arith) within f.sailing f.quay) least late again
     where
-      go : (l : Status) → look ls leg.place ≡ l → LeavesBy l (next s (here.due s)) → next s (here.due s) ≤ leg.leaves → leg.arrives ≤ a
+      go : (l : Label) → look ls leg.place ≡ l → LeavesBy l (next s (here.due s)) → next s (here.due s) ≤ leg.leaves → leg.arrives ≤ a
           → (Covers T ls (after T q.extra s leg.arrives) 0 (length T.places)
           → ((s₂ : Sailing) → leg.arrives ≤ leg.arrives + wait T q.extra s s₂) → (s.to ≡ q.to → ⊥) → Leads T q.extra (after T q.extra s leg.arrives) legs q.to a → Sooner ls a)
           → Sooner ls a

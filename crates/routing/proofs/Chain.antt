@@ -11,14 +11,16 @@ use Rattle.timetable.proofs.Laws.{next-late, next_leaves}
 use Rattle.journey.specs.Journeys.{wait, after, Leads, Elsewhere, Apart}
 use Rattle.routing.specs.declared.ride.Ride.{Ride}
 use Rattle.routing.specs.declared.trip.Trip.{Trip}
-use Rattle.routing.specs.Labels.{Status, Unseen, Settled, look, ride_of, settled}
+use Rattle.routing.specs.declared.label.Label.{Label}
+use Rattle.routing.specs.declared.label.Label.TheVariants.{Unseen, Settled}
+use Rattle.routing.specs.Labels.{look, ride_of, settled}
 use Rattle.routing.specs.Trips.{Makes}
 use Rattle.routing.specs.Invariants.{From, Made}
 use Rattle.routing.specs.Turns.{Arrival}
 use Rattle.routing.specs.Walk.{leg_of, Deeps, Walk, Written}
 use Rattle.routing.proofs.Best.{same_sailing}
 
-elsewhere : (ls : List Status) (d e p : ℕ) (ride : Ride) (legs : List Leg) → ride_of (look ls p) ≡ Some ride → ride.depth ≡ d → d ≤ e → Deeps ls e legs → Elsewhere p legs
+elsewhere : (ls : List Label) (d e p : ℕ) (ride : Ride) (legs : List Leg) → ride_of (look ls p) ≡ Some ride → ride.depth ≡ d → d ≤ e → Deeps ls e legs → Elsewhere p legs
 elsewhere ls d e p ride [] at depth h deeps = tt
 elsewhere ls d e p ride (leg ∷ legs) at depth h ((prior, f, g), deeps) = (
   (λ same. let x : prior ≡ ride = some_ride prior ride (sym f ∙ ap (λ k. ride_of (look ls k)) same ∙ at) in let y : prior.depth ≡ ride.depth = ap (λ z. z.depth) x in omega arith),
@@ -29,7 +31,7 @@ elsewhere ls d e p ride (leg ∷ legs) at depth h ((prior, f, g), deeps) = (
     some_ride a b e = cc
 
 -- depths tell the places apart
-pub apart : (ls : List Status) (d : ℕ) (legs : List Leg) → Deeps ls d legs → Apart legs
+pub apart : (ls : List Label) (d : ℕ) (legs : List Leg) → Deeps ls d legs → Apart legs
 apart ls d [] deeps = tt
 apart ls d (leg ∷ legs) ((ride, e, h), deeps) = (elsewhere ls (d + 1) (d + 1) leg.place ride legs e h (omega arith) deeps, apart ls (d + 1) legs deeps)
 
@@ -40,7 +42,7 @@ written legs n i leg h l =
     let w : i < length (take n legs) = omega (arith, length-take-le n legs l) in
     ap (drop i) e ∙ drop-set (take n legs) i leg w
 
-module _ (T : Timetable) (q : Trip) (ls : List Status) (k : ℕ) (ride : Ride) (made : Made T q ls k ride) (tail : List Leg) (a : ℕ)
+module _ (T : Timetable) (q : Trip) (ls : List Label) (k : ℕ) (ride : Ride) (made : Made T q ls k ride) (tail : List Leg) (a : ℕ)
     (leads : Leads T q.extra (after T q.extra ride.sailing ride.arrives) tail q.to a) where
   -- the first leg
   pub first_leg : ride.via ≡ None → Makes T q (leg_of k ride ∷ tail) a
@@ -81,7 +83,7 @@ module _ (T : Timetable) (q : Trip) (ls : List Status) (k : ℕ) (ride : Ride) (
         ),
       )
 
-pub settled_inside : (ls : List Status) (k : ℕ) (prior : Ride) → look ls k ≡ Settled prior → k < length ls
+pub settled_inside : (ls : List Label) (k : ℕ) (prior : Ride) → look ls k ≡ Settled prior → k < length ls
 settled_inside ls k prior e = elim (cases_lt k (length ls)) [
   | inl h ↦ h
   | inr h ↦ let n : look ls k ≡ Unseen = get_or_past ls k Unseen h in let z : ◌≡◌ {A = ℕ} 0 1 = cc in omega arith
@@ -91,14 +93,14 @@ same_settled : (a b : Ride) → Settled a ≡ Settled b → a ≡ b
 same_settled a b e = cc
 
 -- a labelled place has a depth of at least 1
-depth_pos : (T : Timetable) (q : Trip) (ls : List Status) (s : Sailing) (ride : Ride) (via : Option ℕ) → From T q ls s ride via → 0 < ride.depth
+depth_pos : (T : Timetable) (q : Trip) (ls : List Label) (s : Sailing) (ride : Ride) (via : Option ℕ) → From T q ls s ride via → 0 < ride.depth
 depth_pos T q ls s ride None f = omega (arith, f.2)
 depth_pos T q ls s ride (Some k) f = omega (arith, f.6)
 
-pub made_pos : (T : Timetable) (q : Trip) (ls : List Status) (p : ℕ) (ride : Ride) → Made T q ls p ride → 0 < ride.depth
+pub made_pos : (T : Timetable) (q : Trip) (ls : List Label) (p : ℕ) (ride : Ride) → Made T q ls p ride → 0 < ride.depth
 made_pos T q ls p ride m = depth_pos T q ls ride.sailing ride ride.via m.from
 
-module _ (T : Timetable) (q : Trip) (ls : List Status) (last : ℕ) (ride : Ride) (arrival : Arrival T q ls last ride) where
+module _ (T : Timetable) (q : Trip) (ls : List Label) (last : ℕ) (ride : Ride) (arrival : Arrival T q ls last ride) where
   pub walk_starts : (legs : List Leg) → ride.depth ≤ length legs → Walk T q ls legs ride.depth ride.arrives last ride
   walk_starts legs room =
       let m = arrival.inv.made last ride (ap ride_of arrival.stands) in

@@ -1,7 +1,6 @@
 pub mod Best
 pub mod Steps
 pub mod Links
-pub mod Views
 pub mod Places
 pub mod Relaxed
 pub mod Opens

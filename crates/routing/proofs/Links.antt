@@ -4,15 +4,17 @@ use Rattle.std.proofs.lemmas.List.{get_or-set_same, get_or-set_other, set-get_or
 use Rattle.std.proofs.lemmas.Bool.{cases_eq, lt-ltb}
 use Rattle.queue.specs.Lines.{set_in}
 use Rattle.routing.specs.declared.ride.Ride.{Ride}
-use Rattle.routing.specs.Labels.{Status, Unseen, Waiting, look, key_of, Linked, gains, reach}
+use Rattle.routing.specs.declared.label.Label.{Label}
+use Rattle.routing.specs.declared.label.Label.TheVariants.{Unseen, Waiting}
+use Rattle.routing.specs.Labels.{look, key_of, Linked, gains, reach}
 
-pub not_sooner : (ls : List Status) (p : ℕ) (new : Ride) → false ≡ gains (look ls p) new → ls ≡ set ls p (reach (look ls p) new)
+pub not_sooner : (ls : List Label) (p : ℕ) (new : Ride) → false ≡ gains (look ls p) new → ls ≡ set ls p (reach (look ls p) new)
 not_sooner ls p new e = sym (set-get_or ls p Unseen) ∙ ap (λ b. set ls p (cond b (Waiting new) (look ls p))) e
 
-pub is_sooner : (ls : List Status) (p : ℕ) (new : Ride) → true ≡ gains (look ls p) new → set ls p (Waiting new) ≡ set ls p (reach (look ls p) new)
+pub is_sooner : (ls : List Label) (p : ℕ) (new : Ride) → true ≡ gains (look ls p) new → set ls p (Waiting new) ≡ set ls p (reach (look ls p) new)
 is_sooner ls p new e = ap (λ b. set ls p (cond b (Waiting new) (look ls p))) e
 
-pub linked_set : (ls : List Status) (ks : List (Option ℕ)) (p : ℕ) (l : Status) → p < length ls → Linked ls ks → Linked (set ls p l) (set ks p (key_of l))
+pub linked_set : (ls : List Label) (ks : List (Option ℕ)) (p : ℕ) (l : Label) → p < length ls → Linked ls ks → Linked (set ls p l) (set ks p (key_of l))
 linked_set ls ks p l p< (size, same) = (
   omega (arith, length-set ls p l, length-set ks p (key_of l)),
   λ k. ⊎_elim

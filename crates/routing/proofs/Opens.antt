@@ -11,26 +11,28 @@ use Rattle.routing.specs.declared.ride.Ride.{Ride}
 use Rattle.routing.specs.declared.ride.Origin.{Origin}
 use Rattle.routing.specs.declared.ride.Origin.TheVariants.{Start, Via}
 use Rattle.routing.specs.declared.trip.Trip.{Trip}
-use Rattle.routing.specs.Labels.{Status, Unseen, Waiting, Settled, look, ride_of, waiting_of}
+use Rattle.routing.specs.declared.label.Label.{Label}
+use Rattle.routing.specs.declared.label.Label.TheVariants.{Unseen, Waiting, Settled}
+use Rattle.routing.specs.Labels.{look, ride_of, waiting_of}
 use Rattle.routing.specs.Invariants.{LeavesBy, Covers, Better}
 use Rattle.routing.specs.Origins.{quay_of, minute_of, due_of, stand_of}
 use Rattle.routing.specs.Relaxing.{Rooted, Ready, Through, late, Opened}
 use Rattle.routing.proofs.Best.{leaves_later, stands_inside}
 use Rattle.routing.proofs.Steps.{covers_better, better_refl}
 
-pub opened_better : (T : Timetable) (q : Trip) (ls ms : List Status) (ps : List (Option Span)) (m : ℕ) → Better ls ms → Opened T q ls ps m → Opened T q ms ps m
+pub opened_better : (T : Timetable) (q : Trip) (ls ms : List Label) (ps : List (Option Span)) (m : ℕ) → Better ls ms → Opened T q ls ps m → Opened T q ms ps m
 opened_better T q ls ms ps m better o v span e = let (h, covers) = o v span e in (h, covers_better T ls ms (late T q v m) 0 (length T.places) better covers)
 
-late-later : (T : Timetable) (q : Trip) (ls : List Status) (v m n : ℕ) → m ≤ n → Covers T ls (late T q v m) 0 (length T.places) → Covers T ls (late T q v n) 0 (length T.places)
+late-later : (T : Timetable) (q : Trip) (ls : List Label) (v m n : ℕ) → m ≤ n → Covers T ls (late T q v m) 0 (length T.places) → Covers T ls (late T q v n) 0 (length T.places)
 late-later T q ls v m n h covers p s a b e f =
     let w = change_at T v + q.extra in
     leaves_later (look ls p) _ _ (next_mono s (m + w) (n + w) (omega arith)) (covers p s a b e f)
 
-pub opened_later : (T : Timetable) (q : Trip) (ls : List Status) (ps : List (Option Span)) (m n : ℕ) → m ≤ n → Opened T q ls ps m → Opened T q ls ps n
+pub opened_later : (T : Timetable) (q : Trip) (ls : List Label) (ps : List (Option Span)) (m n : ℕ) → m ≤ n → Opened T q ls ps m → Opened T q ls ps n
 opened_later T q ls ps m n h o v span e = let (holds, covers) = o v span e in (holds, late-later T q ls v m n h covers)
 
 -- who changes leaves no earlier than who comes from the origin
-due_within : (T : Timetable) (q : Trip) (ls : List Status) (o : Origin) → Rooted T q ls o → (s : Sailing) → due_of o s ≤ minute_of o + (change_at T (quay_of o) + q.extra)
+due_within : (T : Timetable) (q : Trip) (ls : List Label) (o : Origin) → Rooted T q ls o → (s : Sailing) → due_of o s ≤ minute_of o + (change_at T (quay_of o) + q.extra)
 due_within T q ls (Start a m) r s = omega arith
 due_within T q ls (Via k ride w) (e, f, g) s = go (continues s ride.sailing)
   where
@@ -42,7 +44,7 @@ some_span : (a b : Span) → ◌≡◌ {A = Option Span} (Some a) (Some b) → a
 some_span a b e = cc
 
 -- one quay more is open
-pub opened_more : (T : Timetable) (q : Trip) (o : Origin) (ls ms : List Status) (ks : List (Option ℕ)) (ps : List (Option Span)) (span : Span) → quay_of o < length ps
+pub opened_more : (T : Timetable) (q : Trip) (o : Origin) (ls ms : List Label) (ks : List (Option ℕ)) (ps : List (Option Span)) (span : Span) → quay_of o < length ps
     → span ≡ span_at T (quay_of o) → Opened T q ls ps (minute_of o) → Through T q o ls ms ks 0 (length T.places) → Opened T q ms (set ps (quay_of o) (Some span)) (minute_of o)
 opened_more T q o ls ms ks ps span h holds opened t v new e = ⊎_elim
     (λ same.
@@ -58,12 +60,12 @@ opened_more T q o ls ms ks ps span h holds opened t v new e = ⊎_elim
     (cases_eq v (quay_of o))
 
 -- at an open quay nothing is to do at a place that does not wait, or does not go on
-module _ (T : Timetable) (q : Trip) (ls : List Status) (ks : List (Option ℕ)) (k w : ℕ) (ride : Ride) (ready : Ready T q (Via k ride w) ls ks)
+module _ (T : Timetable) (q : Trip) (ls : List Label) (ks : List (Option ℕ)) (k w : ℕ) (ride : Ride) (ready : Ready T q (Via k ride w) ls ks)
     (open' : Covers T ls (late T q ride.sailing.to ride.arrives) 0 (length T.places)) (p : ℕ) where
   pub skipped : ((x : Sailing) (old : Ride) → look ls p ≡ Waiting old → place_at T p ≡ Some x → continues x ride.sailing ≡ true → ⊥) → Through T q (Via k ride w) ls ls ks p (p + 1)
   skipped none = record { ready = ready; better = better_refl ls; covers = at }
     where
-      by_label : (j : ℕ) (x : Sailing) (l : Status) → look ls j ≡ l → j ≡ p → place_at T j ≡ Some x → LeavesBy l (next x (ride.arrives + (change_at T ride.sailing.to + q.extra)))
+      by_label : (j : ℕ) (x : Sailing) (l : Label) → look ls j ≡ l → j ≡ p → place_at T j ≡ Some x → LeavesBy l (next x (ride.arrives + (change_at T ride.sailing.to + q.extra)))
           → (b : Bool) → continues x ride.sailing ≡ b → LeavesBy l (next x (ride.arrives + cond b 0 w))
       by_label j x Unseen at_j same e within b is = absurd within
       by_label j x (Settled old) at_j same e within b is =
@@ -79,15 +81,15 @@ module _ (T : Timetable) (q : Trip) (ls : List Status) (ks : List (Option ℕ)) 
           let same : j ≡ p = omega arith in
           by_label j x (look ls j) refl same e (open' j x (omega arith) (stands_inside T j x e) e f) (continues x ride.sailing) refl
 
-pub waiting_is : (l : Status) (ride : Ride) → Some ride ≡ waiting_of l → l ≡ Waiting ride
+pub waiting_is : (l : Label) (ride : Ride) → Some ride ≡ waiting_of l → l ≡ Waiting ride
 waiting_is Unseen ride e = let z : ◌≡◌ {A = ℕ} 0 1 = cc in absurd (omega arith)
-waiting_is (Waiting old) ride e = sym (ap {B = Status} Waiting (same ride old e))
+waiting_is (Waiting old) ride e = sym (ap {B = Label} Waiting (same ride old e))
   where
     same : (a b : Ride) → ◌≡◌ {A = Option Ride} (Some a) (Some b) → a ≡ b
     same a b e = cc
 waiting_is (Settled old) ride e = let z : ◌≡◌ {A = ℕ} 0 1 = cc in absurd (omega arith)
 
-pub not_waiting : (l : Status) (old : Ride) → None ≡ waiting_of l → l ≡ Waiting old → ⊥
+pub not_waiting : (l : Label) (old : Ride) → None ≡ waiting_of l → l ≡ Waiting old → ⊥
 not_waiting l old e f = let g = ap waiting_of f in let z : ◌≡◌ {A = ℕ} 0 1 = cc in omega arith
 
 pub continues_from : (s r : Sailing) → continues s r ≡ true → s.from ≡ r.to

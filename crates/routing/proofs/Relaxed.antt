@@ -9,7 +9,8 @@ use Rattle.timetable.proofs.Laws.{length_cycle, next-late, next_soon}
 use Rattle.routing.specs.declared.ride.Origin.{Origin}
 use Rattle.routing.specs.declared.ride.Origin.TheVariants.{Start, Via}
 use Rattle.routing.specs.declared.trip.Trip.{Trip}
-use Rattle.routing.specs.Labels.{Status, look, ride_of, Linked, reach, settled}
+use Rattle.routing.specs.declared.label.Label.{Label}
+use Rattle.routing.specs.Labels.{look, ride_of, Linked, reach, settled}
 use Rattle.routing.specs.Limits.{last_minute, long_change, long_leg}
 use Rattle.routing.specs.Invariants.{LeavesBy, From, Made, Inv, Better}
 use Rattle.routing.specs.Origins.{quay_of, minute_of, due_of, latest_due, via_of, depth_of, stand_of, ride_from, Small}
@@ -17,7 +18,7 @@ use Rattle.routing.specs.Relaxing.{Rooted, Ready, Through}
 use Rattle.routing.proofs.Best.{stands_inside, same_sailing}
 use Rattle.routing.proofs.Steps.{better_keeps, better_refl, better_trans, covers_better, reached, reached_better, reached_by, settled-reach, settled_le}
 
-pub rooted_better : (T : Timetable) (q : Trip) (ls ms : List Status) (o : Origin) → Better ls ms → Rooted T q ls o → Rooted T q ms o
+pub rooted_better : (T : Timetable) (q : Trip) (ls ms : List Label) (o : Origin) → Better ls ms → Rooted T q ls o → Rooted T q ms o
 rooted_better T q ls ms (Start a m) b r = r
 rooted_better T q ls ms (Via k ride w) b (e, f, g) = (better_keeps ls ms b k ride e, f, g)
 
@@ -31,13 +32,13 @@ due-latest (Via k ride w) s = go (continues s ride.sailing)
     go false = omega arith
 
 -- the numbers of an origin
-pub record Bounds (o : Origin) (ls : List Status) : Type 0 where
+pub record Bounds (o : Origin) (ls : List Label) : Type 0 where
   pub minute : minute_of o ≤ last_minute + long_leg * depth_of o
   pub depth : depth_of o ≤ settled ls
   pub due_late : (s : Sailing) → minute_of o ≤ due_of o s
   pub latest_soon : latest_due o ≤ minute_of o + long_change
 
-module _ (T : Timetable) (q : Trip) (ls : List Status) (ks : List (Option ℕ)) where
+module _ (T : Timetable) (q : Trip) (ls : List Label) (ks : List (Option ℕ)) where
   pub bounds : (o : Origin) → Ready T q o ls ks → Bounds o ls
   bounds (Start quay m) ready = record {
     minute = omega (arith, ready.rooted.1, ready.fair.minute);
@@ -86,7 +87,7 @@ module _ (T : Timetable) (q : Trip) (ls : List Status) (ks : List (Option ℕ)) 
     passed none = record { ready = ready; better = better_refl ls; covers = λ k s lo hi e f. absurd (none s (ap (place_at T) (omega arith) ∙ e) f) }
 
     -- the place is reached
-    pub stepped : (s : Sailing) → place_at T p ≡ Some s → s.from ≡ quay_of o → (ms : List Status) (ks' : List (Option ℕ))
+    pub stepped : (s : Sailing) → place_at T p ≡ Some s → s.from ≡ quay_of o → (ms : List Label) (ks' : List (Option ℕ))
         → ms ≡ set ls p (reach (look ls p) (ride_from o s)) → Linked ms ks' → Through T q o ls ms ks' p (p + 1)
     stepped s e quay ms ks' is linked =
         let new = ride_from o s in
@@ -103,7 +104,7 @@ module _ (T : Timetable) (q : Trip) (ls : List Status) (ks : List (Option ℕ)) 
         let same : settled (set ls p (reach (look ls p) new)) ≡ settled ls = settled-reach ls p (reach (look ls p) new) p< r.1 in
         let inv : Inv T q (set ls p (reach (look ls p) new)) (minute_of o) (settled (set ls p (reach (look ls p) new))) =
         subst (λ c. Inv T q (set ls p (reach (look ls p) new)) (minute_of o) c) (sym same) r.0 in
-        let to : (λ (xs : List Status). Inv T q xs (minute_of o) (settled xs)) ms = subst (λ xs. Inv T q xs (minute_of o) (settled xs)) (sym is) inv in
+        let to : (λ (xs : List Label). Inv T q xs (minute_of o) (settled xs)) ms = subst (λ xs. Inv T q xs (minute_of o) (settled xs)) (sym is) inv in
         let better' : Better ls ms = subst (λ xs. Better ls xs) (sym is) better in
         record {
           ready = record {
@@ -123,7 +124,7 @@ module _ (T : Timetable) (q : Trip) (ls : List Status) (ks : List (Option ℕ)) 
         }
 
 -- two spans, one after the other
-pub joined : (T : Timetable) (q : Trip) (o : Origin) (ls ms ns : List Status) (ks ks' : List (Option ℕ)) (a b c : ℕ)
+pub joined : (T : Timetable) (q : Trip) (o : Origin) (ls ms ns : List Label) (ks ks' : List (Option ℕ)) (a b c : ℕ)
     → Through T q o ls ms ks a b → Through T q o ms ns ks' b c → Through T q o ls ns ks' a c
 joined T q o ls ms ns ks ks' a b c t u = record {
   ready = u.ready;
@@ -134,5 +135,5 @@ joined T q o ls ms ns ks ks' a b c t u = record {
       (cases_lt k b);
 }
 
-pub none_yet : (T : Timetable) (q : Trip) (o : Origin) (ls : List Status) (ks : List (Option ℕ)) (a : ℕ) → Ready T q o ls ks → Through T q o ls ls ks a a
+pub none_yet : (T : Timetable) (q : Trip) (o : Origin) (ls : List Label) (ks : List (Option ℕ)) (a : ℕ) → Ready T q o ls ks → Through T q o ls ls ks a a
 none_yet T q o ls ks a ready = record { ready = ready; better = better_refl ls; covers = λ k s lo hi e f. absurd (omega arith) }

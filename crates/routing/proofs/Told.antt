@@ -15,7 +15,8 @@ use Rattle.journey.specs.Journeys.{start}
 use Rattle.journey.proofs.Follows.{leads_forward}
 use Rattle.routing.specs.declared.ride.Ride.{Ride}
 use Rattle.routing.specs.declared.trip.Trip.{Trip}
-use Rattle.routing.specs.Labels.{Status, ride_of}
+use Rattle.routing.specs.declared.label.Label.{Label}
+use Rattle.routing.specs.Labels.{ride_of}
 use Rattle.routing.specs.Trips.{trip_of}
 use Rattle.routing.specs.Limits.{latest}
 use Rattle.routing.specs.Turns.{Arrival}
@@ -23,7 +24,7 @@ use Rattle.routing.specs.Walk.{Written}
 use Rattle.routing.specs.Route.{Best}
 use Rattle.routing.proofs.Steps.{settled_le}
 
-module _ (T : Timetable) (q : Trip) (ls : List Status) (last : ℕ) (ride : Ride) (arrival : Arrival T q ls last ride) where
+module _ (T : Timetable) (q : Trip) (ls : List Label) (last : ℕ) (ride : Ride) (arrival : Arrival T q ls last ride) where
   pub arrival_depth : ride.depth ≤ length T.places
   arrival_depth = omega (arith, (arrival.inv.low last ride arrival.stands).1, settled_le ls, arrival.sized)
 
@@ -31,7 +32,7 @@ module _ (T : Timetable) (q : Trip) (ls : List Status) (last : ℕ) (ride : Ride
   arrival_bound = omega (arith, (arrival.inv.made last ride (ap ride_of arrival.stands)).bound, arrival_depth, arrival.lawful.few_places)
 
 -- what is told of the trip of a query
-pub best : (T : Timetable) (q : Query) (ls : List Status) (last : ℕ) (ride : Ride) → Arrival T (trip_of q) ls last ride → (old new : List Leg)
+pub best : (T : Timetable) (q : Query) (ls : List Label) (last : ℕ) (ride : Ride) → Arrival T (trip_of q) ls last ride → (old new : List Leg)
     → Written T (trip_of q) new ride.depth ride.arrives → drop ride.depth new ≡ drop ride.depth old
     → Best T q old new (record { arrival = ride.arrives; legs = ride.depth })
 best T q ls last ride arrival old new w rest = record {

@@ -11,7 +11,9 @@ use Rattle.routing.specs.declared.ride.Ride.{Ride}
 use Rattle.routing.specs.declared.ride.Origin.{Origin}
 use Rattle.routing.specs.declared.ride.Origin.TheVariants.{Start, Via}
 use Rattle.routing.specs.declared.trip.Trip.{Trip}
-use Rattle.routing.specs.Labels.{Status, Unseen, Waiting, Settled, look, ride_of, key_of, Linked, settled}
+use Rattle.routing.specs.declared.label.Label.{Label}
+use Rattle.routing.specs.declared.label.Label.TheVariants.{Unseen, Waiting, Settled}
+use Rattle.routing.specs.Labels.{look, ride_of, key_of, Linked, settled}
 use Rattle.routing.specs.Trips.{Unmade}
 use Rattle.routing.specs.Invariants.{Inv, Covers, Better}
 use Rattle.routing.specs.Origins.{quay_of, stand_of}
@@ -34,7 +36,7 @@ pub span_end : (T : Timetable) (v : ℕ) (span : Span) → Lawful T → span ≡
 span_end T v span lawful is = subst (λ x. x.end ≤ length T.places) (sym is) (lawful.span_end v)
 
 -- all places from those of the span
-pub whole : (T : Timetable) (q : Trip) (o : Origin) (ls ms : List Status) (ks : List (Option ℕ)) (span : Span) → span ≡ span_at T (quay_of o)
+pub whole : (T : Timetable) (q : Trip) (o : Origin) (ls ms : List Label) (ks : List (Option ℕ)) (span : Span) → span ≡ span_at T (quay_of o)
     → Through T q o ls ms ks span.start span.end → Through T q o ls ms ks 0 (length T.places)
 whole T q o ls ms ks span is t = record {
   ready = t.ready;
@@ -43,23 +45,23 @@ whole T q o ls ms ks span is t = record {
 }
 
 -- the quay of an origin is one of the timetable's
-pub origin_quay : (T : Timetable) (q : Trip) (o : Origin) (ls : List Status) (ks : List (Option ℕ)) → Ready T q o ls ks → quay_of o < length T.changes
+pub origin_quay : (T : Timetable) (q : Trip) (o : Origin) (ls : List Label) (ks : List (Option ℕ)) → Ready T q o ls ks → quay_of o < length T.changes
 origin_quay T q (Start quay m) ls ks ready = omega (arith, ready.rooted.0, ready.fair.from)
 origin_quay T q (Via k ride w) ls ks ready = (ready.fair.lawful.within k ride.sailing ready.rooted.1).to_quay
 
 some_key : (a b : ℕ) → ◌≡◌ {A = Option ℕ} (Some a) (Some b) → a ≡ b
 some_key a b e = cc
 
-waits_at : (l : Status) (k : ℕ) → Some k ≡ key_of l → (ride : Ride) × (l ≡ Waiting ride) × (k ≡ ride.arrives)
+waits_at : (l : Label) (k : ℕ) → Some k ≡ key_of l → (ride : Ride) × (l ≡ Waiting ride) × (k ≡ ride.arrives)
 waits_at Unseen k e = let z : ◌≡◌ {A = ℕ} 0 1 = cc in absurd (omega arith)
 waits_at (Waiting ride) k e = (ride, refl, some_key k ride.arrives e)
 waits_at (Settled ride) k e = let z : ◌≡◌ {A = ℕ} 0 1 = cc in absurd (omega arith)
 
 -- nothing waits in the line, so no place waits
-pub none_first : (ls : List Status) (ks : List (Option ℕ)) → Linked ls ks → ((i k : ℕ) → Waits ks i k → ⊥) → (p : ℕ) (ride : Ride) → look ls p ≡ Waiting ride → ⊥
+pub none_first : (ls : List Label) (ks : List (Option ℕ)) → Linked ls ks → ((i k : ℕ) → Waits ks i k → ⊥) → (p : ℕ) (ride : Ride) → look ls p ≡ Waiting ride → ⊥
 none_first ls ks linked none p ride e = none p ride.arrives (linked.1 p ∙ ap key_of e)
 
-module _ (ls : List Status) (ks : List (Option ℕ)) (p key : ℕ) (linked : Linked ls ks) (f : First ks p key) where
+module _ (ls : List Label) (ks : List (Option ℕ)) (p key : ℕ) (linked : Linked ls ks) (f : First ks p key) where
   pub found : (ride : Ride) × (look ls p ≡ Waiting ride) × (key ≡ ride.arrives)
   found = waits_at (look ls p) key (sym f.waits ∙ linked.1 p)
 
@@ -87,19 +89,19 @@ module _ (ls : List Status) (ks : List (Option ℕ)) (p key : ℕ) (linked : Lin
       same_waits : (a b : Ride) → Waiting a ≡ Waiting b → a ≡ b
       same_waits a b e = cc
 
-pub settled_better : (ls ms : List Status) → length ls ≡ length ms → Better ls ms → settled ms ≡ settled ls
+pub settled_better : (ls ms : List Label) → length ls ≡ length ms → Better ls ms → settled ms ≡ settled ls
 settled_better [] [] e b = refl
 settled_better [] (m ∷ ms) e b = absurd (omega arith)
 settled_better (l ∷ ls) [] e b = absurd (omega arith)
 settled_better (l ∷ ls) (m ∷ ms) e b = omega (arith, one_betters l m (b 0), settled_better ls ms (omega arith) (λ p. b (suc p)))
 
-module _ (T : Timetable) (q : Trip) (ls : List Status) (ks : List (Option ℕ)) (ps : List (Option Span)) (going : Going T q ls ks ps) where
+module _ (T : Timetable) (q : Trip) (ls : List Label) (ks : List (Option ℕ)) (ps : List (Option Span)) (going : Going T q ls ks ps) where
   pub none_waits : ((p : ℕ) (ride : Ride) → look ls p ≡ Waiting ride → ⊥) → Unmade T q
   none_waits none legs a j =
       let s = journey_sooner T q ls going.floor (settled ls) going.inv going.closed legs a going.apart j in
       none s.place s.ride s.waits
 
-  module _ (p : ℕ) (ride : Ride) (ms : List Status) (ks' : List (Option ℕ)) (settles : Settles ls p ride ms ks') where
+  module _ (p : ℕ) (ride : Ride) (ms : List Label) (ks' : List (Option ℕ)) (settles : Settles ls p ride ms ks') where
     pub stands : place_at T p ≡ Some ride.sailing
     stands = (going.inv.made p ride (ap ride_of settles.waits)).stands
 
@@ -148,7 +150,7 @@ module _ (T : Timetable) (q : Trip) (ls : List Status) (ks : List (Option ℕ)) 
       rooted = (settled_here, stands, e);
     }
 
-    pub gone : (w : ℕ) → w ≡ change_at T ride.sailing.to + q.extra → (ride.sailing.to ≡ q.to → ⊥) → (ns : List Status) (ks'' : List (Option ℕ)) (ps' : List (Option Span))
+    pub gone : (w : ℕ) → w ≡ change_at T ride.sailing.to + q.extra → (ride.sailing.to ≡ q.to → ⊥) → (ns : List Label) (ks'' : List (Option ℕ)) (ps' : List (Option Span))
         → length ps' ≡ length ps → Opened T q ns ps' ride.arrives
         → Through T q (Via p ride w) ms ns ks'' 0 (length T.places) → Going T q ns ks'' ps' × (settled ns ≡ settled ls + 1)
     gone w e away ns ks'' ps' long opened t =

@@ -6,20 +6,22 @@ use Rattle.routing.specs.declared.explore.Turn.{Turn}
 use Rattle.routing.specs.declared.explore.Turn.TheVariants.{Empty, Arrived, Onward}
 use Rattle.routing.specs.declared.ride.Ride.{Ride}
 use Rattle.routing.specs.declared.trip.Trip.{Trip}
-use Rattle.routing.specs.Labels.{Status, Waiting, Settled, look, settled, Linked}
+use Rattle.routing.specs.declared.label.Label.{Label}
+use Rattle.routing.specs.declared.label.Label.TheVariants.{Waiting, Settled}
+use Rattle.routing.specs.Labels.{look, settled, Linked}
 use Rattle.routing.specs.Trips.{Soonest, Unmade}
 use Rattle.routing.specs.Invariants.{Inv, Closed}
 use Rattle.routing.specs.Relaxing.{Fair, Opened}
 
 -- before the first turn
-pub record Asked (T : Timetable) (q : Trip) (ls : List Status) (ks : List (Option ℕ)) : Type 0 where
+pub record Asked (T : Timetable) (q : Trip) (ls : List Label) (ks : List (Option ℕ)) : Type 0 where
   pub fair : Fair T q
   pub apart : q.from ≡ q.to → ⊥
   pub sized : length ls ≡ length T.places
   pub room : length ls ≤ length ks
 
 -- between two turns
-pub record Going (T : Timetable) (q : Trip) (ls : List Status) (ks : List (Option ℕ)) (ps : List (Option Span)) : Type 0 where
+pub record Going (T : Timetable) (q : Trip) (ls : List Label) (ks : List (Option ℕ)) (ps : List (Option Span)) : Type 0 where
   pub floor : ℕ
   pub fair : Fair T q
   pub apart : q.from ≡ q.to → ⊥
@@ -31,7 +33,7 @@ pub record Going (T : Timetable) (q : Trip) (ls : List Status) (ks : List (Optio
   pub opened : Opened T q ls ps floor
 
 -- the first of the waiting places is settled
-pub record Settles (ls : List Status) (p : ℕ) (ride : Ride) (ms : List Status) (ks : List (Option ℕ)) : Type 0 where
+pub record Settles (ls : List Label) (p : ℕ) (ride : Ride) (ms : List Label) (ks : List (Option ℕ)) : Type 0 where
   pub inside : p < length ls
   pub waits : look ls p ≡ Waiting ride
   pub first : (k : ℕ) (other : Ride) → look ls k ≡ Waiting other → ride.arrives ≤ other.arrives
@@ -39,12 +41,12 @@ pub record Settles (ls : List Status) (p : ℕ) (ride : Ride) (ms : List Status)
   pub linked : Linked ms ks
 
 -- if any waits
-abbrev pub SettledFirst : List Status → Option (ℕ × Ride) → List Status → List (Option ℕ) → Type 0
+abbrev pub SettledFirst : List Label → Option (ℕ × Ride) → List Label → List (Option ℕ) → Type 0
 SettledFirst ls None ms ks = (p : ℕ) (ride : Ride) → look ls p ≢ Waiting ride
 SettledFirst ls (Some x) ms ks = Settles ls x.0 x.1 ms ks
 
 -- the settled place p ends at the goal, and nothing gets there sooner
-pub record Arrival (T : Timetable) (q : Trip) (ls : List Status) (p : ℕ) (ride : Ride) : Type 0 where
+pub record Arrival (T : Timetable) (q : Trip) (ls : List Label) (p : ℕ) (ride : Ride) : Type 0 where
   pub floor : ℕ
   pub inv : Inv T q ls floor (settled ls)
   pub sized : length ls ≡ length T.places
@@ -53,11 +55,11 @@ pub record Arrival (T : Timetable) (q : Trip) (ls : List Status) (p : ℕ) (ride
   pub to : ride.sailing.to ≡ q.to
   pub soonest : Soonest T q ride.arrives
 
-abbrev pub Turned : Timetable → Trip → List Status → Turn → List Status → List (Option ℕ) → List (Option Span) → Type 0
+abbrev pub Turned : Timetable → Trip → List Label → Turn → List Label → List (Option ℕ) → List (Option Span) → Type 0
 Turned T q ls Empty ms ks ps = Unmade T q
 Turned T q ls (Arrived p ride) ms ks ps = Arrival T q ms p ride
 Turned T q ls Onward ms ks ps = Going T q ms ks ps × (settled ms ≡ settled ls + 1)
 
-abbrev pub Explored : Timetable → Trip → Option (ℕ × Ride) → List Status → Type 0
+abbrev pub Explored : Timetable → Trip → Option (ℕ × Ride) → List Label → Type 0
 Explored T q None ms = Unmade T q
 Explored T q (Some x) ms = Arrival T q ms x.0 x.1

@@ -1,14 +1,14 @@
 //! Settling one place after another, the earliest arrival first, until the goal is reached.
 ghost use Rattle.std.specs.Prelude.{◌≡◌, ℕ, ◌+◌, ◌<◌, ◌≤◌, length};
 ghost use Rattle.routing.specs.declared.ride.Origin.TheVariants.{Via};
-ghost use Rattle.routing.specs.Labels.{view, Linked};
+ghost use Rattle.routing.specs.Labels.{Linked};
 ghost use Rattle.routing.specs.Relaxing.{Ready, Through, Opened};
 ghost use Rattle.routing.specs.Turns.{SettledFirst, Going, Turned, Explored};
 
 use crate::follow::follow_span;
-use crate::label::{Label, State};
+use crate::label::Label;
 use crate::relax::open_quay;
-use crate::ride::{Origin, Ride, ride_in};
+use crate::ride::{Origin, Ride};
 use crate::trip::Trip;
 use queue::line::Line;
 use timetable::book::Book;
@@ -24,12 +24,14 @@ pub enum Turn {
 
 // Settles the place that comes first in the line.
 fn settle_first<L: Line>(line: &mut L, labels: &mut [Label]) -> Option<(u16, Ride)>
-    requires { Linked (view labels.old) (L.keys line.old) }
-    ensures { SettledFirst (view labels.old) result (view labels.new) (L.keys line.new) }
+    requires { Linked labels.old (L.keys line.old) }
+    ensures { SettledFirst labels.old result labels.new (L.keys line.new) }
 {
     let (place, _) = line.take()?;
-    let ride = ride_in(labels[place as usize]);
-    labels[place as usize].state = State::Settled;
+    let Label::Waiting(ride) = labels[place as usize] else {
+        unreachable!()
+    };
+    labels[place as usize] = Label::Settled(ride);
     Some((place, ride))
 }
 
@@ -44,11 +46,11 @@ fn go_on<B: Book, L: Line>(
     ride: Ride,
     change: u32,
 )
-    requires ready { Ready (B.meaning book.now) trip (Via place ride change) (view labels.old) (L.keys line.old) }
+    requires ready { Ready (B.meaning book.now) trip (Via place ride change) labels.old (L.keys line.old) }
     requires many { length (B.meaning book.now).changes ≤ length spans.old }
-    requires opened { Opened (B.meaning book.now) trip (view labels.old) spans.old ride.arrives }
-    ensures through { Through (B.meaning book.now) trip (Via place ride change) (view labels.old) (view labels.new) (L.keys line.new) 0 (length (B.meaning book.now).places) }
-    ensures opened { Opened (B.meaning book.now) trip (view labels.new) spans.new ride.arrives }
+    requires opened { Opened (B.meaning book.now) trip labels.old spans.old ride.arrives }
+    ensures through { Through (B.meaning book.now) trip (Via place ride change) labels.old labels.new (L.keys line.new) 0 (length (B.meaning book.now).places) }
+    ensures opened { Opened (B.meaning book.now) trip labels.new spans.new ride.arrives }
 {
     match spans[ride.sailing.to as usize] {
         Some(span) => follow_span(book, line, labels, trip, place, ride, change, span),
@@ -71,8 +73,8 @@ fn take_turn<B: Book, L: Line>(
     spans: &mut [Option<Span>],
     trip: Trip,
 ) -> Turn
-    requires { Going (B.meaning book.now) trip (view labels.old) (L.keys line.old) spans.old }
-    ensures { Turned (B.meaning book.now) trip (view labels.old) result (view labels.new) (L.keys line.new) spans.new }
+    requires { Going (B.meaning book.now) trip labels.old (L.keys line.old) spans.old }
+    ensures { Turned (B.meaning book.now) trip labels.old result labels.new (L.keys line.new) spans.new }
 {
     let Some((place, ride)) = settle_first(line, labels) else {
         return Turn::Empty;
@@ -93,8 +95,8 @@ pub(crate) fn explore<B: Book, L: Line>(
     spans: &mut [Option<Span>],
     trip: Trip,
 ) -> Option<(u16, Ride)>
-    requires { Going (B.meaning book.now) trip (view labels.old) (L.keys line.old) spans.old }
-    ensures { Explored (B.meaning book.now) trip result (view labels.new) }
+    requires { Going (B.meaning book.now) trip labels.old (L.keys line.old) spans.old }
+    ensures { Explored (B.meaning book.now) trip result labels.new }
 {
     'turns: loop {
         match take_turn(book, line, labels, spans, trip) {

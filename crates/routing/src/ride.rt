@@ -1,10 +1,8 @@
 //! Rides: the sailing of a place, taken on some day, as the last leg so far.
 ghost use Rattle.std.specs.Prelude.{◌≡◌, ◌<◌};
 ghost use Rattle.timetable.specs.Times.{next};
-ghost use Rattle.routing.specs.Labels.{status_of, ride_in, Waiting};
 ghost use Rattle.routing.specs.Origins.{quay_of, due_of, ride_from, Small};
 
-use crate::label::{Label, State};
 use crate::minutes::{minutes_of, next_leave};
 use timetable::sailing::Sailing;
 
@@ -23,38 +21,6 @@ pub struct Ride {
 pub enum Origin {
     Start(u16, u32),
     Via(u16, Ride, u32),
-}
-
-// The ride that a label tells of.
-pub(crate) fn ride_in(label: Label) -> Ride
-    ensures { result ≡ ride_in label }
-{
-    Ride {
-        sailing: label.sailing,
-        leaves: label.leaves,
-        arrives: label.arrives,
-        via: if label.begins { None } else { Some(label.via) },
-        depth: label.depth,
-    }
-}
-
-// The label of a place that waits with this ride.
-pub(crate) fn waiting_label(ride: Ride) -> Label
-    ensures { status_of result ≡ Waiting ride }
-{
-    let (begins, via) = match ride.via {
-        Some(place) => (false, place),
-        None => (true, 0),
-    };
-    Label {
-        leaves: ride.leaves,
-        arrives: ride.arrives,
-        sailing: ride.sailing,
-        via,
-        depth: ride.depth,
-        state: State::Waiting,
-        begins,
-    }
 }
 
 pub(crate) fn quay_of(origin: Origin) -> u16

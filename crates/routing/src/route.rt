@@ -1,6 +1,5 @@
 //! The route: the earliest journey for a query.
 ghost use Rattle.std.specs.Prelude.{◌≡◌, ℕ, ◌≤◌, length};
-ghost use Rattle.routing.specs.Labels.{view};
 ghost use Rattle.routing.specs.Trips.{trip_of};
 ghost use Rattle.routing.specs.Turns.{Asked};
 ghost use Rattle.routing.specs.Route.{lent, Tells, Routed};
@@ -27,7 +26,7 @@ fn find<B: Book, L: Line>(
     legs: &mut [Leg],
     query: Query,
 ) -> Option<Found>
-    requires asked { Asked (B.meaning book.now) (trip_of query) (view labels.old) (L.keys line.old) }
+    requires asked { Asked (B.meaning book.now) (trip_of query) labels.old (L.keys line.old) }
     requires room { length (B.meaning book.now).places ≤ length legs.old }
     ensures { Tells (B.meaning book.now) query legs.old legs.new result }
 {

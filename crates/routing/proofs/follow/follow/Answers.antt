@@ -1,40 +1,37 @@
 use Rattle.std.proofs.Common.{set, sym, ap, ◌∙◌}
 use Rattle.timetable.specs.Times.{continues}
 use Rattle.routing.specs.declared.ride.Origin.TheVariants.{Via}
-use Rattle.routing.specs.Labels.{view, look, ride_of, reach}
+use Rattle.routing.specs.Labels.{look, ride_of, reach}
 use Rattle.routing.proofs.Best.{same_sailing}
-use Rattle.routing.proofs.Opens.{skipped, waiting_is, not_waiting, continues_from, differ}
+use Rattle.routing.proofs.Opens.{skipped, continues_from, differ}
 use Rattle.routing.proofs.Relaxed.{small, stepped}
 use Rattle.routing.proofs.follow.follow.Goals as goal
 
 pub ride_from-requires : goal.ride_from-requires
 ride_from-requires g c =
     let T = g.B.Book.meaning c.args.book.now in
-    let at = waiting_is (look (view c.args.labels.now) c.args.place) c.in-Some.waiting c.in-Some.ensures in
-    small T c.args.trip (view c.args.labels.now) (g.L.Line.keys c.args.line.now) (Via c.args.k c.args.ridden c.args.change) c.requires.ready c.args.place c.in-Some.waiting.sailing
-    (c.requires.ready.inv.made c.args.place c.in-Some.waiting (ap ride_of at)).stands
+    small T c.args.trip c.args.labels.now (g.L.Line.keys c.args.line.now) (Via c.args.k c.args.ridden c.args.change) c.requires.ready c.args.place c.in-Waiting.waiting.sailing
+    (c.requires.ready.inv.made c.args.place c.in-Waiting.waiting (ap ride_of c.in-Waiting.is)).stands
 
 pub returns-then-continues : goal.returns-then-continues
 returns-then-continues g c =
     let T = g.B.Book.meaning c.args.book.now in
-    let at = waiting_is (look (view c.args.labels.now) c.args.place) c.in-Some.waiting c.in-Some.ensures in
-    stepped T c.args.trip (view c.args.labels.now) (g.L.Line.keys c.args.line.now) (Via c.args.k c.args.ridden c.args.change) c.requires.ready c.args.place c.in-Some.waiting.sailing
-    (c.requires.ready.inv.made c.args.place c.in-Some.waiting (ap ride_of at)).stands
-    (continues_from c.in-Some.waiting.sailing c.args.ridden.sailing (sym c.if-continues.ensures.value)) (view c.renew_place.new.labels) (g.L.Line.keys c.renew_place.new.line)
-    (c.renew_place.ensures.after ∙ ap (λ n. set (view c.args.labels.now) c.args.place (reach (look (view c.args.labels.now) c.args.place) n)) c.ride_from.ensures)
+    stepped T c.args.trip c.args.labels.now (g.L.Line.keys c.args.line.now) (Via c.args.k c.args.ridden c.args.change) c.requires.ready c.args.place c.in-Waiting.waiting.sailing
+    (c.requires.ready.inv.made c.args.place c.in-Waiting.waiting (ap ride_of c.in-Waiting.is)).stands
+    (continues_from c.in-Waiting.waiting.sailing c.args.ridden.sailing (sym c.if-continues.ensures.value)) c.renew_place.new.labels (g.L.Line.keys c.renew_place.new.line)
+    (c.renew_place.ensures.after ∙ ap (λ n. set c.args.labels.now c.args.place (reach (look c.args.labels.now c.args.place) n)) c.ride_from.ensures)
     c.renew_place.ensures.linked
 
 pub returns-else-continues : goal.returns-else-continues
 returns-else-continues g c =
     let T = g.B.Book.meaning c.args.book.now in
-    let at = waiting_is (look (view c.args.labels.now) c.args.place) c.in-Some.waiting c.in-Some.ensures in
-    skipped T c.args.trip (view c.args.labels.now) (g.L.Line.keys c.args.line.now) c.args.k c.args.change c.args.ridden c.requires.ready c.requires.late c.args.place
+    skipped T c.args.trip c.args.labels.now (g.L.Line.keys c.args.line.now) c.args.k c.args.change c.args.ridden c.requires.ready c.requires.late c.args.place
     (λ x old w e yes.
-    let same = same_sailing T c.args.place x c.in-Some.waiting.sailing e (c.requires.ready.inv.made c.args.place c.in-Some.waiting (ap ride_of at)).stands in
-    differ (continues c.in-Some.waiting.sailing c.args.ridden.sailing) (ap (λ z. continues z c.args.ridden.sailing) (sym same) ∙ yes) c.if-continues.ensures.value)
+    let same = same_sailing T c.args.place x c.in-Waiting.waiting.sailing e (c.requires.ready.inv.made c.args.place c.in-Waiting.waiting (ap ride_of c.in-Waiting.is)).stands in
+    differ (continues c.in-Waiting.waiting.sailing c.args.ridden.sailing) (ap (λ z. continues z c.args.ridden.sailing) (sym same) ∙ yes) c.if-continues.ensures.value)
 
 pub returns-in_default : goal.returns-in_default
 returns-in_default g c =
     let T = g.B.Book.meaning c.args.book.now in
-    skipped T c.args.trip (view c.args.labels.now) (g.L.Line.keys c.args.line.now) c.args.k c.args.change c.args.ridden c.requires.ready c.requires.late c.args.place
-    (λ x old w e yes. not_waiting (look (view c.args.labels.now) c.args.place) old c.in_default.ensures w)
+    skipped T c.args.trip c.args.labels.now (g.L.Line.keys c.args.line.now) c.args.k c.args.change c.args.ridden c.requires.ready c.requires.late c.args.place
+    (λ x old w e yes. c.in_default.not-Waiting old w)

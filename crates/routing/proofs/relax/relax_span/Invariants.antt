@@ -1,6 +1,5 @@
-use Rattle.routing.specs.Labels.{view}
 use Rattle.routing.specs.Relaxing.{Through}
 use Rattle.routing.proofs.relax.relax_span.Given as goal
 
 abbrev pub invariant-loop-place : goal.invariant-loop-place
-invariant-loop-place g l = Through (g.B.Book.meaning l.book) l.trip l.origin (view l.initial.labels) (view l.labels) (g.L.Line.keys l.line) l.initial.place l.place
+invariant-loop-place g l = Through (g.B.Book.meaning l.book) l.trip l.origin l.initial.labels l.labels (g.L.Line.keys l.line) l.initial.place l.place

@@ -3,7 +3,6 @@ use Rattle.std.proofs.lemmas.Grind.{common_steps}
 use Rattle.std.proofs.lemmas.List.{length-take}
 use Rattle.timetable.proofs.Laws.{class_short}
 use Rattle.routing.proofs.Told.{stays, fit_from, fit_minute}
-use Rattle.routing.proofs.Views.{view-length}
 use Rattle.routing.proofs.route.route.Goals as goal
 
 pub returns-then-query : goal.returns-then-query
@@ -16,7 +15,6 @@ pub find-requires-clause-asked : goal.find-requires-clause-asked
 find-requires-clause-asked g c =
     let fit = c.in_ok-check.ensures.lowest in
     let part = length-take c.from-places.result c.args.labels.now in
-    let long = view-length (take c.from-places.result c.args.labels.now) in
     record {
       fair = record {
         lawful = g.B.Book.lawful c.args.book.now;
@@ -25,6 +23,6 @@ find-requires-clause-asked g c =
         from = omega (arith, fit_from c.args.query c.quays.result fit, c.quays.ensures);
       };
       apart = c.if-query.false;
-      sized = omega (arith, long, c.places.ensures, c.from-places.ensures);
-      room = omega (arith, long, c.places.ensures, c.size.ensures);
+      sized = omega (arith, part, c.places.ensures, c.from-places.ensures);
+      room = omega (arith, part, c.places.ensures, c.size.ensures);
     }
