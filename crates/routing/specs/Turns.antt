@@ -2,8 +2,6 @@
 use Rattle.std.specs.Prelude.{◌≡◌, ℕ, ◌+◌, ◌<◌, ◌≤◌, List, length, Some, None, Option, ◌≢◌, slice_set}
 use Rattle.timetable.specs.declared.span.Span.{Span}
 use Rattle.timetable.specs.Timetables.{Timetable, Lawful}
-use Rattle.routing.specs.declared.explore.Turn.{Turn}
-use Rattle.routing.specs.declared.explore.Turn.TheVariants.{Empty, Arrived, Onward}
 use Rattle.routing.specs.declared.ride.Ride.{Ride}
 use Rattle.routing.specs.declared.trip.Trip.{Trip}
 use Rattle.routing.specs.declared.label.Label.{Label}
@@ -54,11 +52,6 @@ pub record Arrival (T : Timetable) (q : Trip) (ls : List Label) (p : ℕ) (ride 
   pub stands : look ls p ≡ Settled ride
   pub to : ride.sailing.to ≡ q.to
   pub soonest : Soonest T q ride.arrives
-
-abbrev pub Turned : Timetable → Trip → List Label → Turn → List Label → List (Option ℕ) → List (Option Span) → Type 0
-Turned T q ls Empty ms ks ps = Unmade T q
-Turned T q ls (Arrived p ride) ms ks ps = Arrival T q ms p ride
-Turned T q ls Onward ms ks ps = Going T q ms ks ps × (settled ms ≡ settled ls + 1)
 
 abbrev pub Explored : Timetable → Trip → Option (ℕ × Ride) → List Label → Type 0
 Explored T q None ms = Unmade T q

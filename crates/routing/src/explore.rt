@@ -3,7 +3,7 @@ ghost use Rattle.std.specs.Prelude.{◌≡◌, ℕ, ◌+◌, ◌<◌, ◌≤◌,
 ghost use Rattle.routing.specs.declared.ride.Origin.TheVariants.{Via};
 ghost use Rattle.routing.specs.Labels.{Linked};
 ghost use Rattle.routing.specs.Relaxing.{Ready, Through, Opened};
-ghost use Rattle.routing.specs.Turns.{SettledFirst, Going, Turned, Explored};
+ghost use Rattle.routing.specs.Turns.{SettledFirst, Going, Explored};
 
 use crate::follow::follow_span;
 use crate::label::Label;
@@ -13,14 +13,6 @@ use crate::trip::Trip;
 use queue::line::Line;
 use timetable::book::Book;
 use timetable::span::Span;
-
-// What a turn comes to: nothing waits, the goal is reached, or another place is settled and left.
-#[derive(Clone, Copy)]
-pub enum Turn {
-    Empty,
-    Arrived(u16, Ride),
-    Onward,
-}
 
 // Settles the place that comes first in the line.
 fn settle_first<L: Line>(line: &mut L, labels: &mut [Label]) -> Option<(u16, Ride)>
@@ -65,29 +57,7 @@ fn go_on<B: Book, L: Line>(
     }
 }
 
-// Settles the first of the waiting places and goes on from there, unless it ends at the goal.
-fn take_turn<B: Book, L: Line>(
-    book: &B,
-    line: &mut L,
-    labels: &mut [Label],
-    spans: &mut [Option<Span>],
-    trip: Trip,
-) -> Turn
-    requires { Going (B.meaning book.now) trip labels.old (L.keys line.old) spans.old }
-    ensures { Turned (B.meaning book.now) trip labels.old result labels.new (L.keys line.new) spans.new }
-{
-    let Some((place, ride)) = settle_first(line, labels) else {
-        return Turn::Empty;
-    };
-    if ride.sailing.to == trip.to {
-        return Turn::Arrived(place, ride);
-    }
-    let change = u32::from(book.change_at(ride.sailing.to)) + trip.extra;
-    go_on(book, line, labels, spans, trip, place, ride, change);
-    Turn::Onward
-}
-
-// Turn after turn, until the goal is reached or nothing waits.
+// Settles one waiting place after another and goes on from there, until one ends at the goal or nothing waits.
 pub(crate) fn explore<B: Book, L: Line>(
     book: &B,
     line: &mut L,
@@ -98,11 +68,12 @@ pub(crate) fn explore<B: Book, L: Line>(
     requires { Going (B.meaning book.now) trip labels.old (L.keys line.old) spans.old }
     ensures { Explored (B.meaning book.now) trip result labels.new }
 {
-    'turns: loop {
-        match take_turn(book, line, labels, spans, trip) {
-            Turn::Empty => return None,
-            Turn::Arrived(place, ride) => return Some((place, ride)),
-            Turn::Onward => {}
+    'turns: while let Some((place, ride)) = settle_first(line, labels) {
+        if ride.sailing.to == trip.to {
+            return Some((place, ride));
         }
+        let change = u32::from(book.change_at(ride.sailing.to)) + trip.extra;
+        go_on(book, line, labels, spans, trip, place, ride, change);
     }
+    None
 }

@@ -46,17 +46,19 @@ const NO_LEG: Leg = Leg {
     arrives: 0,
 };
 
-// An answer in two numbers: arrival and legs, or a refusal and 1,000, or 0 and 2,000 for none.
-fn told(answer: Result<Option<Found>, Refusal>) -> (u32, u16) {
-    match answer {
-        Ok(Some(found)) => (found.arrival, found.legs),
-        Ok(None) => (0, 2000),
-        Err(refusal) => (refusal.number() as u32, 1000),
-    }
+// What a route tells, with a refusal by its number.
+type Told = Result<Option<Found>, u8>;
+
+fn told(answer: Result<Option<Found>, Refusal>) -> Told {
+    answer.map_err(|refusal| refusal.number())
+}
+
+fn journey(arrival: u32, legs: u16) -> Told {
+    Ok(Some(Found { arrival, legs }))
 }
 
 // The route through the worked book, with this change time at quay 1.
-fn routed(change: u16, asked: Query) -> (u32, u16) {
+fn routed(change: u16, asked: Query) -> Told {
     let sailings = worked();
     let book = FourQuays {
         changes: (5, change, 10, 5),
@@ -69,7 +71,7 @@ fn routed(change: u16, asked: Query) -> (u32, u16) {
 }
 
 // The route with this many items in the line, and short buffers.
-fn lent(items: u16, labels: &mut [Label], legs: &mut [Leg], asked: Query) -> (u32, u16) {
+fn lent(items: u16, labels: &mut [Label], legs: &mut [Leg], asked: Query) -> Told {
     let sailings = worked();
     let book = FourQuays {
         changes: (5, 30, 10, 5),
@@ -81,26 +83,26 @@ fn lent(items: u16, labels: &mut [Label], legs: &mut [Leg], asked: Query) -> (u3
 
 #[test]
 fn worked_book(rt: HostRuntime) {
-    assert_eq!(rt; routed(30, query(0, 2, 470, 0)), (540, 2));
-    assert_eq!(rt; routed(30, query(0, 2, 481, 0)), (1980, 2));
-    assert_eq!(rt; routed(30, query(0, 3, 470, 0)), (1450, 3));
-    assert_eq!(rt; routed(30, query(2, 2, 600, 0)), (600, 0));
-    assert_eq!(rt; routed(30, query(3, 0, 0, 0)), (0, 2000));
+    assert_eq!(rt; routed(30, query(0, 2, 470, 0)), journey(540, 2));
+    assert_eq!(rt; routed(30, query(0, 2, 481, 0)), journey(1980, 2));
+    assert_eq!(rt; routed(30, query(0, 3, 470, 0)), journey(1450, 3));
+    assert_eq!(rt; routed(30, query(2, 2, 600, 0)), journey(600, 0));
+    assert_eq!(rt; routed(30, query(3, 0, 0, 0)), Ok(None));
 }
 
 #[test]
 fn change_times(rt: HostRuntime) {
-    assert_eq!(rt; routed(25, query(0, 2, 470, 0)), (530, 2));
-    assert_eq!(rt; routed(26, query(0, 2, 470, 0)), (540, 2));
-    assert_eq!(rt; routed(25, query(0, 2, 470, 1)), (540, 2));
+    assert_eq!(rt; routed(25, query(0, 2, 470, 0)), journey(530, 2));
+    assert_eq!(rt; routed(26, query(0, 2, 470, 0)), journey(540, 2));
+    assert_eq!(rt; routed(25, query(0, 2, 470, 1)), journey(540, 2));
 }
 
 #[test]
 fn refusals(rt: HostRuntime) {
-    assert_eq!(rt; routed(30, query(4, 2, 470, 0)), (11, 1000));
-    assert_eq!(rt; routed(30, query(0, 4, 1440, 8)), (11, 1000));
-    assert_eq!(rt; routed(30, query(0, 2, 1440, 8)), (12, 1000));
-    assert_eq!(rt; routed(30, query(0, 2, 1439, 8)), (14, 1000));
+    assert_eq!(rt; routed(30, query(4, 2, 470, 0)), Err(11));
+    assert_eq!(rt; routed(30, query(0, 4, 1440, 8)), Err(11));
+    assert_eq!(rt; routed(30, query(0, 2, 1440, 8)), Err(12));
+    assert_eq!(rt; routed(30, query(0, 2, 1439, 8)), Err(14));
 }
 
 #[test]
@@ -110,10 +112,10 @@ fn short_memory(rt: HostRuntime) {
     let mut few_labels = [Label::blank(); 5];
     let mut legs = [NO_LEG; 6];
     let mut few_legs = [NO_LEG; 5];
-    assert_eq!(rt; lent(5, &mut few_labels, &mut legs, asked), (21, 1000));
-    assert_eq!(rt; lent(5, &mut labels, &mut few_legs, asked), (21, 1000));
-    assert_eq!(rt; lent(5, &mut labels, &mut legs, asked), (22, 1000));
-    assert_eq!(rt; lent(6, &mut labels, &mut legs, asked), (540, 2));
+    assert_eq!(rt; lent(5, &mut few_labels, &mut legs, asked), Err(21));
+    assert_eq!(rt; lent(5, &mut labels, &mut few_legs, asked), Err(21));
+    assert_eq!(rt; lent(5, &mut labels, &mut legs, asked), Err(22));
+    assert_eq!(rt; lent(6, &mut labels, &mut legs, asked), journey(540, 2));
 }
 
 #[test]
@@ -122,7 +124,7 @@ fn legs_are_written(rt: HostRuntime) {
     let mut legs = [NO_LEG; 6];
     assert_eq!(rt;
         lent(6, &mut labels, &mut legs, query(0, 2, 470, 0)),
-        (540, 2)
+        journey(540, 2)
     );
     assert_eq!(rt;
         (legs[0].place, legs[0].leaves, legs[0].arrives),
@@ -156,7 +158,7 @@ fn line_not_empty(rt: HostRuntime) {
             &mut legs,
             query(0, 2, 470, 0),
         )),
-        (540, 2)
+        journey(540, 2)
     );
     assert_eq!(rt;
         told(route(
@@ -166,7 +168,7 @@ fn line_not_empty(rt: HostRuntime) {
             &mut legs,
             query(0, 3, 470, 0),
         )),
-        (1450, 3)
+        journey(1450, 3)
     );
 }
 
@@ -194,7 +196,7 @@ fn turn_back(rt: HostRuntime) {
             &mut legs,
             query(0, 2, 470, 0),
         )),
-        (560, 4)
+        journey(560, 4)
     );
     assert_eq!(rt;
         told(route(
@@ -203,8 +205,7 @@ fn turn_back(rt: HostRuntime) {
             &mut labels,
             &mut legs,
             query(0, 2, 470, 2),
-        ))
-        .0,
-        2000
+        )),
+        Ok(None)
     );
 }

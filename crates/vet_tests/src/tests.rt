@@ -47,14 +47,21 @@ fn worked() -> [Sailing; 7] {
     ]
 }
 
-// What is said of a plan: Y and its arrival, X, the leg and its number, or E and the number of a refused query.
-type Said = (u8, u64, u8);
+// What is said of a plan, with refusals by their numbers.
+#[derive(Clone, Copy, PartialEq, Debug)]
+enum Said {
+    Holds(u32),
+    Fails(usize, u8),
+    Refused(u8),
+}
+
+use Said::{Fails, Holds, Refused};
 
 fn said(answer: Result<Verdict, Refusal>) -> Said {
     match answer {
-        Ok(Verdict::Holds { arrival }) => (b'Y', arrival as u64, 0),
-        Ok(Verdict::Fails { leg, refusal }) => (b'X', leg as u64, refusal.number()),
-        Err(refusal) => (b'E', 0, refusal.number()),
+        Ok(Verdict::Holds { arrival }) => Holds(arrival),
+        Ok(Verdict::Fails { leg, refusal }) => Fails(leg, refusal.number()),
+        Err(refusal) => Refused(refusal.number()),
     }
 }
 
@@ -69,9 +76,8 @@ fn vets<const N: usize>(
         changes: (5, change, 10, 5),
         sailings,
     };
-    for k in 0..cases.len() {
-        let (query, plan, expected) = cases[k];
-        assert_eq!(rt; said(vet(&book, query, &plan)), expected, "{}", k);
+    for (k, (query, plan, expected)) in cases.iter().enumerate() {
+        assert_eq!(rt; said(vet(&book, *query, plan)), *expected, "{}", k);
     }
 }
 
@@ -82,16 +88,16 @@ fn empty_plans(rt: HostRuntime) {
         &worked(),
         30,
         &[
-            (query(0, 2, 470, 0), [], (b'X', 0, 45)),
-            (query(1, 1, 600, 0), [], (b'Y', 600, 0)),
-            (query(3, 3, 1439, 7), [], (b'Y', 1439, 0)),
-            (query(4, 0, 0, 0), [], (b'E', 0, 11)),
-            (query(0, 4, 1440, 8), [], (b'E', 0, 11)),
-            (query(65535, 65535, 0, 0), [], (b'E', 0, 11)),
-            (query(0, 0, 1440, 8), [], (b'E', 0, 12)),
-            (query(0, 0, 65535, 0), [], (b'E', 0, 12)),
-            (query(0, 0, 1439, 8), [], (b'E', 0, 14)),
-            (query(0, 0, 0, 65535), [], (b'E', 0, 14)),
+            (query(0, 2, 470, 0), [], Fails(0, 45)),
+            (query(1, 1, 600, 0), [], Holds(600)),
+            (query(3, 3, 1439, 7), [], Holds(1439)),
+            (query(4, 0, 0, 0), [], Refused(11)),
+            (query(0, 4, 1440, 8), [], Refused(11)),
+            (query(65535, 65535, 0, 0), [], Refused(11)),
+            (query(0, 0, 1440, 8), [], Refused(12)),
+            (query(0, 0, 65535, 0), [], Refused(12)),
+            (query(0, 0, 1439, 8), [], Refused(14)),
+            (query(0, 0, 0, 65535), [], Refused(14)),
         ],
     );
 }
@@ -103,34 +109,34 @@ fn single_legs(rt: HostRuntime) {
         &worked(),
         30,
         &[
-            (query(0, 1, 480, 0), [leg(0, 480, 500)], (b'Y', 500, 0)),
-            (query(0, 1, 481, 0), [leg(0, 1920, 1940)], (b'Y', 1940, 0)),
-            (query(2, 3, 1400, 7), [leg(5, 1430, 1450)], (b'Y', 1450, 0)),
-            (query(2, 3, 1431, 0), [leg(5, 2870, 2890)], (b'Y', 2890, 0)),
+            (query(0, 1, 480, 0), [leg(0, 480, 500)], Holds(500)),
+            (query(0, 1, 481, 0), [leg(0, 1920, 1940)], Holds(1940)),
+            (query(2, 3, 1400, 7), [leg(5, 1430, 1450)], Holds(1450)),
+            (query(2, 3, 1431, 0), [leg(5, 2870, 2890)], Holds(2890)),
             // no sailing there: blank, or no such place
-            (query(0, 1, 0, 0), [leg(6, 1440, 1450)], (b'X', 0, 41)),
-            (query(0, 1, 0, 0), [leg(7, 480, 500)], (b'X', 0, 41)),
-            (query(0, 1, 0, 0), [leg(65535, 481, 9)], (b'X', 0, 41)),
+            (query(0, 1, 0, 0), [leg(6, 1440, 1450)], Fails(0, 41)),
+            (query(0, 1, 0, 0), [leg(7, 480, 500)], Fails(0, 41)),
+            (query(0, 1, 0, 0), [leg(65535, 481, 9)], Fails(0, 41)),
             // the minutes do not fit, whatever else is wrong
-            (query(0, 1, 0, 0), [leg(0, 481, 501)], (b'X', 0, 42)),
-            (query(0, 1, 0, 0), [leg(0, 480, 501)], (b'X', 0, 42)),
-            (query(0, 1, 0, 0), [leg(0, 480, 480)], (b'X', 0, 42)),
-            (query(0, 1, 0, 0), [leg(0, 0, 20)], (b'X', 0, 42)),
-            (query(2, 3, 0, 0), [leg(5, 1430, 10)], (b'X', 0, 42)),
-            (query(0, 2, 600, 0), [leg(2, 506, 540)], (b'X', 0, 42)),
+            (query(0, 1, 0, 0), [leg(0, 481, 501)], Fails(0, 42)),
+            (query(0, 1, 0, 0), [leg(0, 480, 501)], Fails(0, 42)),
+            (query(0, 1, 0, 0), [leg(0, 480, 480)], Fails(0, 42)),
+            (query(0, 1, 0, 0), [leg(0, 0, 20)], Fails(0, 42)),
+            (query(2, 3, 0, 0), [leg(5, 1430, 10)], Fails(0, 42)),
+            (query(0, 2, 600, 0), [leg(2, 506, 540)], Fails(0, 42)),
             // another quay, whatever the minute
-            (query(0, 2, 0, 0), [leg(2, 505, 540)], (b'X', 0, 43)),
-            (query(0, 2, 600, 0), [leg(2, 505, 540)], (b'X', 0, 43)),
+            (query(0, 2, 0, 0), [leg(2, 505, 540)], Fails(0, 43)),
+            (query(0, 2, 600, 0), [leg(2, 505, 540)], Fails(0, 43)),
             // before the query's minute
-            (query(0, 1, 481, 0), [leg(0, 480, 500)], (b'X', 0, 44)),
-            (query(2, 3, 1431, 0), [leg(5, 1430, 1450)], (b'X', 0, 44)),
+            (query(0, 1, 481, 0), [leg(0, 480, 500)], Fails(0, 44)),
+            (query(2, 3, 1431, 0), [leg(5, 1430, 1450)], Fails(0, 44)),
             // right, but it ends elsewhere
-            (query(0, 2, 470, 0), [leg(0, 480, 500)], (b'X', 1, 45)),
-            (query(0, 0, 470, 0), [leg(0, 480, 500)], (b'X', 1, 45)),
+            (query(0, 2, 470, 0), [leg(0, 480, 500)], Fails(1, 45)),
+            (query(0, 0, 470, 0), [leg(0, 480, 500)], Fails(1, 45)),
             // a refused query comes first
-            (query(0, 4, 0, 0), [leg(9, 1, 1)], (b'E', 0, 11)),
-            (query(0, 1, 1440, 0), [leg(9, 1, 1)], (b'E', 0, 12)),
-            (query(0, 1, 0, 8), [leg(9, 1, 1)], (b'E', 0, 14)),
+            (query(0, 4, 0, 0), [leg(9, 1, 1)], Refused(11)),
+            (query(0, 1, 1440, 0), [leg(9, 1, 1)], Refused(12)),
+            (query(0, 1, 0, 8), [leg(9, 1, 1)], Refused(14)),
         ],
     );
 }
@@ -143,59 +149,59 @@ fn two_legs(rt: HostRuntime) {
         &worked(),
         30,
         &[
-            (query(0, 2, 470, 0), early, (b'X', 1, 44)),
+            (query(0, 2, 470, 0), early, Fails(1, 44)),
             (
                 query(0, 2, 470, 0),
                 [leg(1, 470, 490), leg(4, 510, 540)],
-                (b'X', 1, 44),
+                Fails(1, 44),
             ),
             (
                 query(0, 2, 470, 0),
                 [leg(1, 470, 490), leg(3, 1955, 1970)],
-                (b'Y', 1970, 0),
+                Holds(1970),
             ),
             // a barge that sails on keeps its load, whatever the class
             (
                 query(0, 2, 470, 0),
                 [leg(0, 480, 500), leg(2, 505, 540)],
-                (b'Y', 540, 0),
+                Holds(540),
             ),
             (
                 query(0, 2, 470, 7),
                 [leg(0, 480, 500), leg(2, 505, 540)],
-                (b'Y', 540, 0),
+                Holds(540),
             ),
             // a barge of another run does not sail on
             (
                 query(0, 2, 470, 0),
                 [leg(1, 470, 490), leg(2, 505, 540)],
-                (b'X', 1, 44),
+                Fails(1, 44),
             ),
             (
                 query(0, 2, 470, 0),
                 [leg(0, 480, 500), leg(0, 1920, 1940)],
-                (b'X', 1, 43),
+                Fails(1, 43),
             ),
             (
                 query(0, 2, 470, 0),
                 [leg(0, 480, 500), leg(2, 505, 541)],
-                (b'X', 1, 42),
+                Fails(1, 42),
             ),
             (
                 query(0, 2, 470, 0),
                 [leg(0, 480, 500), leg(6, 505, 540)],
-                (b'X', 1, 41),
+                Fails(1, 41),
             ),
             // the first wrong leg, not the worst
             (
                 query(0, 2, 481, 0),
                 [leg(0, 480, 500), leg(9, 0, 0)],
-                (b'X', 0, 44),
+                Fails(0, 44),
             ),
             (
                 query(0, 3, 470, 0),
                 [leg(0, 480, 500), leg(2, 505, 540)],
-                (b'X', 2, 45),
+                Fails(2, 45),
             ),
         ],
     );
@@ -203,25 +209,25 @@ fn two_legs(rt: HostRuntime) {
         &rt,
         &worked(),
         25,
-        &[(query(0, 2, 470, 0), early, (b'Y', 530, 0))],
+        &[(query(0, 2, 470, 0), early, Holds(530))],
     );
     vets(
         &rt,
         &worked(),
         26,
-        &[(query(0, 2, 470, 0), early, (b'X', 1, 44))],
+        &[(query(0, 2, 470, 0), early, Fails(1, 44))],
     );
     vets(
         &rt,
         &worked(),
         20,
-        &[(query(0, 2, 470, 1), early, (b'Y', 530, 0))],
+        &[(query(0, 2, 470, 1), early, Holds(530))],
     );
     vets(
         &rt,
         &worked(),
         20,
-        &[(query(0, 2, 470, 2), early, (b'X', 1, 44))],
+        &[(query(0, 2, 470, 2), early, Fails(1, 44))],
     );
 }
 
@@ -241,22 +247,22 @@ fn turning_back(rt: HostRuntime) {
             (
                 query(0, 1, 100, 7),
                 [leg(0, 100, 110), leg(2, 110, 120), leg(1, 120, 130)],
-                (b'Y', 130, 0),
+                Holds(130),
             ),
             (
                 query(0, 1, 100, 0),
                 [leg(0, 100, 110), leg(2, 110, 120), leg(0, 1540, 1550)],
-                (b'Y', 1550, 0),
+                Holds(1550),
             ),
             (
                 query(0, 1, 100, 0),
                 [leg(0, 100, 110), leg(2, 1550, 1560), leg(1, 1560, 1570)],
-                (b'Y', 1570, 0),
+                Holds(1570),
             ),
             (
                 query(0, 1, 100, 0),
                 [leg(0, 100, 110), leg(2, 1550, 1560), leg(1, 120, 130)],
-                (b'X', 2, 44),
+                Fails(2, 44),
             ),
         ],
     );
@@ -277,17 +283,17 @@ fn latest_minutes(rt: HostRuntime) {
         &sailings,
         30,
         &[
-            (query(0, 1, 0, 0), [last], (b'Y', 4294967295, 0)),
-            (query(0, 1, 0, 0), [leg(3, 4294967290, 4)], (b'X', 0, 42)),
+            (query(0, 1, 0, 0), [last], Holds(4294967295)),
+            (query(0, 1, 0, 0), [leg(3, 4294967290, 4)], Fails(0, 42)),
             (
                 query(0, 1, 0, 0),
                 [leg(3, 4294967290, 4294967295)],
-                (b'X', 0, 42),
+                Fails(0, 42),
             ),
             (
                 query(0, 1, 0, 0),
                 [leg(0, 4294967295, 4294967295)],
-                (b'X', 0, 42),
+                Fails(0, 42),
             ),
         ],
     );
@@ -296,8 +302,8 @@ fn latest_minutes(rt: HostRuntime) {
         &sailings,
         30,
         &[
-            (query(0, 2, 0, 0), [last, leg(1, 40, 60)], (b'X', 1, 44)),
-            (query(0, 2, 0, 0), [last, leg(2, 40, 60)], (b'X', 1, 44)),
+            (query(0, 2, 0, 0), [last, leg(1, 40, 60)], Fails(1, 44)),
+            (query(0, 2, 0, 0), [last, leg(2, 40, 60)], Fails(1, 44)),
         ],
     );
 }
