@@ -1,5 +1,5 @@
 -- One label is written, or left as it is. Assumes nothing.
-use Rattle.std.proofs.Common.{◌≡◌, ℕ, ◌<◌, true, false, List, length, set, Some, Option, ◌∙◌, sym, subst, arith}
+use Rattle.std.proofs.Common.{◌≡◌, ℕ, ◌<◌, true, false, List, length, set, Option, ◌∙◌, sym, subst, arith}
 use Rattle.queue.specs.Lines.{set_in}
 use Rattle.routing.specs.declared.label.Label.{Label}
 use Rattle.routing.specs.declared.label.Label.TheVariants.{Waiting}

@@ -1,5 +1,5 @@
 -- What each turn comes to. Assumes nothing.
-use Rattle.std.specs.Prelude.{◌≡◌, ℕ, ◌+◌, ◌<◌, ◌≤◌, List, length, Some, None, Option, ◌≢◌, slice_set}
+use Rattle.std.specs.Prelude.{◌≡◌, ℕ, ◌<◌, ◌≤◌, List, length, Some, None, Option, ◌≢◌, slice_set}
 use Rattle.timetable.specs.declared.span.Span.{Span}
 use Rattle.timetable.specs.Timetables.{Timetable, Lawful}
 use Rattle.routing.specs.declared.ride.Ride.{Ride}

@@ -43,11 +43,7 @@ impl Book for FourQuays<'_> {
     }
 
     fn places(&self) -> u16 {
-        if self.sailings.len() < MOST {
-            self.sailings.len() as u16
-        } else {
-            MOST as u16
-        }
+        self.sailings.len().min(MOST) as u16
     }
 
     fn change(&self, quay: u16) -> Result<u16, Refusal> {

@@ -127,12 +127,20 @@ fn legs_are_written(rt: HostRuntime) {
         journey(540, 2)
     );
     assert_eq!(rt;
-        (legs[0].place, legs[0].leaves, legs[0].arrives),
-        (0, 480, 500)
+        legs[0],
+        Leg {
+            place: 0,
+            leaves: 480,
+            arrives: 500
+        }
     );
     assert_eq!(rt;
-        (legs[1].place, legs[1].leaves, legs[1].arrives),
-        (2, 505, 540)
+        legs[1],
+        Leg {
+            place: 2,
+            leaves: 505,
+            arrives: 540
+        }
     );
     assert_eq!(rt; legs[2].place, 99);
 }

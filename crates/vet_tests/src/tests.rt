@@ -57,7 +57,7 @@ enum Said {
 
 use Said::{Fails, Holds, Refused};
 
-fn said(answer: Result<Verdict, Refusal>) -> Said {
+fn told(answer: Result<Verdict, Refusal>) -> Said {
     match answer {
         Ok(Verdict::Holds { arrival }) => Holds(arrival),
         Ok(Verdict::Fails { leg, refusal }) => Fails(leg, refusal.number()),
@@ -77,7 +77,7 @@ fn vets<const N: usize>(
         sailings,
     };
     for (k, (query, plan, expected)) in cases.iter().enumerate() {
-        assert_eq!(rt; said(vet(&book, *query, plan)), *expected, "{}", k);
+        assert_eq!(rt; told(vet(&book, *query, plan)), *expected, "{}", k);
     }
 }
 

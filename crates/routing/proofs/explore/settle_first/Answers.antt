@@ -1,7 +1,4 @@
-use Rattle.std.proofs.Common.{◌≡◌, ◌<◌, length, sym, refl, ap, ◌∙◌, arith}
-use Rattle.routing.specs.declared.label.Label.{Label}
-use Rattle.routing.specs.declared.label.Label.TheVariants.{Waiting}
-use Rattle.routing.specs.Labels.{look}
+use Rattle.std.proofs.Common.{arith}
 use Rattle.routing.proofs.Turned.{none_first, found, first_inside, settle_first_lem}
 use Rattle.routing.proofs.explore.settle_first.Goals as goal
 

@@ -1,7 +1,4 @@
-use Rattle.std.proofs.Common.{◌≡◌, ◌≤◌, length, sym, refl, ap, ◌∙◌, arith}
-use Rattle.routing.specs.declared.label.Label.{Label}
-use Rattle.routing.specs.declared.label.Label.TheVariants.{Settled}
-use Rattle.routing.specs.Labels.{look}
+use Rattle.std.proofs.Common.{◌≤◌, length, refl, ◌∙◌, arith}
 use Rattle.routing.proofs.Chain.{settled_inside, made_pos, walk_starts, walk_goes, walk_ends, walk_has, walk_less, walk_rest}
 use Rattle.routing.proofs.legs.write_legs.Goals as goal
 
