@@ -10,18 +10,13 @@ fn departure(minute: u32, place: u16) -> Departure {
 
 // 0 for an entry that is added or replaced, else the number of the refusal.
 fn number(answer: Result<(), Refusal>) -> u8 {
-    match answer {
-        Ok(()) => 0,
-        Err(refusal) => refusal.number(),
-    }
+    answer.err().map_or(0, |refusal| refusal.number())
 }
 
 // The minute and the place of what is taken; 0 and 0 if there is none.
 fn taken(heap: &mut DepartureHeap<'_>) -> (u32, u16) {
-    match heap.take_least() {
-        Some(least) => (least.minute, least.place),
-        None => (0, 0),
-    }
+    heap.take_least()
+        .map_or((0, 0), |least| (least.minute, least.place))
 }
 
 // Takes one after another.

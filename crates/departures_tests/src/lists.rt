@@ -49,10 +49,9 @@ fn told(
     store: &mut [Departure],
     rows: &mut [Departure],
 ) -> u16 {
-    match list_departures(&Printed::open(image), quay, minute, store, rows) {
-        Ok(n) => n,
-        Err(refusal) => REFUSED + u16::from(refusal.number()),
-    }
+    list_departures(&Printed::open(image), quay, minute, store, rows).unwrap_or_else(
+        |refusal| REFUSED + u16::from(refusal.number()),
+    )
 }
 
 // The rows that were told for a quay from a minute.
@@ -71,17 +70,17 @@ fn check_rows(rt: &impl Abort, quay: u16, minute: u16, rows: &[Departure], due: 
 
 // Each case is a quay, a minute, what is told, and what the rows then hold.
 fn check_lists(rt: &impl Abort, image: &[u8], cases: &[(u16, u16, u16, [(u16, u32); 6])]) {
-    for case in cases {
+    for (quay, minute, due, filled) in cases {
         let mut store = [BLANK; 6];
         let mut rows = [BLANK; 6];
         assert_eq!(rt;
-            told(image, case.0, case.1, &mut store, &mut rows),
-            case.2,
+            told(image, *quay, *minute, &mut store, &mut rows),
+            *due,
             "quay {} from {}",
-            case.0,
-            case.1
+            quay,
+            minute
         );
-        check_rows(rt, case.0, case.1, &rows, &case.3);
+        check_rows(rt, *quay, *minute, &rows, filled);
     }
 }
 
