@@ -9,14 +9,14 @@ use Rattle.timetable.specs.declared.refusal.Refusal.TheVariants.{NoQuay}
 use Rattle.timetable.specs.Times.{day}
 use Rattle.timetable.specs.Timetables.{Within, Lawful, span_at}
 use Rattle.timetable.specs.Answers.{span_of}
-use Rattle.layers_tests.specs.Written.{written, short, right, all_right, fair}
+use Rattle.layers_tests.specs.Written.{written, short, right_place, all_right, fair}
 
 short_at : (xs : List ℕ) (k : ℕ) → short xs ≡ true → slice_index xs k < day
 short_at [] k h = omega arith
 short_at (x ∷ xs) zero h = ltb-true x day (and_parts (nat_lt x day) (short xs) h).0
 short_at (x ∷ xs) (suc k) h = short_at xs k (and_parts (nat_lt x day) (short xs) h).1
 
-right_some : (n : ℕ) (o : Option Sailing) (s : Sailing) → right n o ≡ true → o ≡ Some s → Within n s
+right_some : (n : ℕ) (o : Option Sailing) (s : Sailing) → right_place n o ≡ true → o ≡ Some s → Within n s
 right_some n None s h e = let z : ◌≡◌ {A = ℕ} 0 1 = cc in absurd (omega arith)
 right_some n (Some r) s h e =
     let same : r ≡ s = cc in
@@ -28,8 +28,8 @@ right_some n (Some r) s h e =
 
 right_at : (n : ℕ) (xs : List (Option Sailing)) (p : ℕ) (s : Sailing) → all_right n xs ≡ true → slice_index_or xs p None ≡ Some s → Within n s
 right_at n [] p s h e = let z : ◌≡◌ {A = ℕ} 0 1 = cc in absurd (omega arith)
-right_at n (x ∷ xs) zero s h e = right_some n x s (and_parts (right n x) (all_right n xs) h).0 e
-right_at n (x ∷ xs) (suc p) s h e = right_at n xs p s (and_parts (right n x) (all_right n xs) h).1 e
+right_at n (x ∷ xs) zero s h e = right_some n x s (and_parts (right_place n x) (all_right n xs) h).0 e
+right_at n (x ∷ xs) (suc p) s h e = right_at n xs p s (and_parts (right_place n x) (all_right n xs) h).1 e
 
 stands : (places : List (Option Sailing)) (p : ℕ) (s : Sailing) → slice_index_or places p None ≡ Some s → p < length places
 stands places p s e = ⊎_elim (λ lt. lt)

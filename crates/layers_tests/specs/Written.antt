@@ -1,5 +1,6 @@
 -- A timetable written out for tests, each quay with the whole row of places as its span. Assumes nothing.
-use Rattle.std.specs.Prelude.{ℕ, Bool, true, not, ◌&&◌, List, [], ◌∷◌, length, replicate, Some, None, Option, ◌==◌, nat_le, nat_lt}
+use Rattle.std.specs.Prelude.{ℕ, Bool, true, not, ◌&&◌, List, length, replicate, Some, None, Option, ◌==◌, nat_le, nat_lt}
+use Rattle.std.specs.List.{list_all}
 use Rattle.timetable.specs.declared.sailing.Sailing.{Sailing}
 use Rattle.timetable.specs.Times.{day}
 use Rattle.timetable.specs.Timetables.{Timetable}
@@ -9,17 +10,19 @@ written changes places = record { changes = changes; places = places; spans = re
 
 -- every change time is within the day
 abbrev pub short : List ℕ → Bool
-short [] = true
-short (x ∷ xs) = nat_lt x day && short xs
+short = list_all (λ x. nat_lt x day)
 
--- what stands at a place is within the limits of a book with so many quays
-abbrev pub right : ℕ → Option Sailing → Bool
-right quays None = true
-right quays (Some s) = nat_lt s.from quays && (nat_lt s.to quays && (not (s.to == s.from) && (nat_lt s.dep day && nat_lt s.arr day)))
+-- a sailing is within the limits of a book with so many quays
+abbrev pub right : ℕ → Sailing → Bool
+right quays s = nat_lt s.from quays && (nat_lt s.to quays && (not (s.to == s.from) && (nat_lt s.dep day && nat_lt s.arr day)))
+
+-- so is what stands at a place
+abbrev pub right_place : ℕ → Option Sailing → Bool
+right_place quays None = true
+right_place quays (Some s) = right quays s
 
 abbrev pub all_right : ℕ → List (Option Sailing) → Bool
-all_right quays [] = true
-all_right quays (x ∷ xs) = right quays x && all_right quays xs
+all_right quays = list_all (right_place quays)
 
 abbrev pub fair : List ℕ → List (Option Sailing) → Bool
 fair changes places = nat_le 1 (length changes) && (nat_le (length changes) 256 && (nat_le (length places) 3072 && (short changes && all_right (length changes) places)))

@@ -26,6 +26,7 @@ fn keeps_order<B: Book>(below: B) -> Withholding<B>
 #[cfg(test)]
 mod tests {
     use crate::rows::Rows;
+    use cases::book::{worked_changes, worked_sailings};
     use layers::shutting::Shutting;
     use layers::thinned::Thinned;
     use layers::withholding::Withholding;
@@ -34,56 +35,21 @@ mod tests {
     use timetable::refusal::Refusal;
     use timetable::sailing::Sailing;
 
-    fn sailing(run: u16, leg: u16, from: u16, to: u16, dep: u16, arr: u16) -> Option<Sailing> {
-        Some(Sailing {
-            run,
-            leg,
-            from,
-            to,
-            dep,
-            arr,
-        })
-    }
-
     // The worked book: four quays, six sailings.
-    fn changes() -> [u16; 4] {
-        [5, 30, 10, 5]
-    }
-
-    fn places() -> [Option<Sailing>; 6] {
-        [
-            sailing(7, 0, 0, 1, 480, 500),
-            sailing(9, 0, 0, 1, 470, 490),
-            sailing(7, 1, 1, 2, 505, 540),
-            sailing(8, 0, 1, 2, 515, 530),
-            sailing(6, 0, 1, 2, 510, 540),
-            sailing(5, 0, 2, 3, 1430, 10),
-        ]
-    }
-
-    // The number of a refusal, and 0 for a notice that is accepted.
-    fn number(answer: Result<(), Refusal>) -> u8 {
-        match answer {
-            Ok(_) => 0,
-            Err(e) => e.number(),
-        }
+    fn worked() -> ([u16; 4], [Option<Sailing>; 6]) {
+        (worked_changes(30), worked_sailings().map(Some))
     }
 
     // A bit for each of the first six places that has a sailing, the first place highest.
     fn shown<B: Book>(book: &B) -> u32 {
-        let mut bits = 0;
-        for p in 0..6 {
-            bits = bits % 64 * 2;
-            if let Ok(Some(_)) = book.place(p) {
-                bits += 1;
-            }
-        }
-        bits
+        (0..6).fold(0, |bits, p| {
+            bits % 64 * 2 + u32::from(book.sailing_at(p).is_some())
+        })
     }
 
     #[test]
     fn thin_marks_place_4_alone(rt: HostRuntime) {
-        let (changes, places) = (changes(), places());
+        let (changes, places) = worked();
         let mut book = Thinned::new(Rows::open(&changes, &places));
         let before = shown(&book);
         let count = book.thin();
@@ -100,7 +66,7 @@ mod tests {
     // Place 4 loses to place 3 of run 8 alone. Without run 7 it still does, and nothing continues a sailing or is continued.
     #[test]
     fn thin_is_of_the_book_in_force(rt: HostRuntime) {
-        let (changes, places) = (changes(), places());
+        let (changes, places) = worked();
         let mut book = Thinned::new(Withholding::new(Rows::open(&changes, &places)));
         let _ = book.below.withhold(8);
         let without_8 = book.thin();
@@ -113,104 +79,82 @@ mod tests {
 
     #[test]
     fn withheld_runs_are_blank(rt: HostRuntime) {
-        let (changes, places) = (changes(), places());
+        let (changes, places) = worked();
         let mut book = Withholding::new(Rows::open(&changes, &places));
-        let first = number(book.withhold(7));
-        let without = shown(&book);
-        let held = [book.is_withheld(7), book.is_withheld(8)];
-        let later = [
-            number(book.withhold(7)),
-            number(book.release(8)),
-            number(book.release(7)),
-            number(book.release(7)),
-        ];
-        assert_eq!(rt; first, 0);
-        assert_eq!(rt; held, [true, false]);
-        assert_eq!(rt; later, [31, 32, 0, 32]);
-        assert_eq!(rt; [without, shown(&book)], [0b010111, 0b111111]);
+        assert_eq!(rt; book.withhold(7), Ok(()));
+        assert_eq!(rt; shown(&book), 0b010111);
+        assert_eq!(rt; [7, 8].map(|run| book.is_withheld(run)), [true, false]);
+        assert_eq!(rt; book.withhold(7), Err(Refusal::RunWithheld));
+        assert_eq!(rt; book.release(8), Err(Refusal::RunNotWithheld));
+        assert_eq!(rt; book.release(7), Ok(()));
+        assert_eq!(rt; book.release(7), Err(Refusal::RunNotWithheld));
+        assert_eq!(rt; shown(&book), 0b111111);
     }
 
     #[test]
     fn shut_quays_blank_at_both_ends(rt: HostRuntime) {
-        let (changes, places) = (changes(), places());
+        let (changes, places) = worked();
         let mut book = Shutting::new(Rows::open(&changes, &places));
-        let first = number(book.shut(2));
-        let without = shown(&book);
-        let held = [book.is_shut(2), book.is_shut(1)];
-        let later = [
-            number(book.shut(2)),
-            number(book.shut(4)),
-            number(book.open(4)),
-            number(book.open(1)),
-            number(book.open(2)),
-            number(book.open(2)),
-            number(book.shut(0)),
-        ];
-        assert_eq!(rt; first, 0);
-        assert_eq!(rt; held, [true, false]);
-        assert_eq!(rt; later, [34, 11, 11, 35, 0, 35, 0]);
-        assert_eq!(rt; [without, shown(&book)], [0b110000, 0b001111]);
+        assert_eq!(rt; book.shut(2), Ok(()));
+        assert_eq!(rt; shown(&book), 0b110000);
+        assert_eq!(rt; [2, 1].map(|quay| book.is_shut(quay)), [true, false]);
+        assert_eq!(rt; book.shut(2), Err(Refusal::QuayShut));
+        assert_eq!(rt; book.shut(4), Err(Refusal::NoQuay));
+        assert_eq!(rt; book.open(4), Err(Refusal::NoQuay));
+        assert_eq!(rt; book.open(1), Err(Refusal::QuayNotShut));
+        assert_eq!(rt; book.open(2), Ok(()));
+        assert_eq!(rt; book.open(2), Err(Refusal::QuayNotShut));
+        assert_eq!(rt; book.shut(0), Ok(()));
+        assert_eq!(rt; shown(&book), 0b001111);
     }
 
     #[test]
     fn at_most_64_runs(rt: HostRuntime) {
-        let (changes, places) = (changes(), places());
+        let (changes, places) = worked();
         let mut book = Withholding::new(Rows::open(&changes, &places));
-        let mut refused = false;
-        for run in 100..164 {
-            refused = number(book.withhold(run)) != 0 || refused;
-        }
-        let later = [
-            number(book.withhold(164)),
-            number(book.withhold(100)),
-            number(book.release(164)),
-            number(book.release(120)),
-            number(book.withhold(164)),
-            number(book.withhold(120)),
-        ];
-        assert!(rt; !refused);
-        assert_eq!(rt; later, [33, 31, 32, 0, 0, 33]);
+        assert!(rt; (100..164).all(|run| book.withhold(run).is_ok()));
+        assert_eq!(rt; book.withhold(164), Err(Refusal::RunsFull));
+        assert_eq!(rt; book.withhold(100), Err(Refusal::RunWithheld));
+        assert_eq!(rt; book.release(164), Err(Refusal::RunNotWithheld));
+        assert_eq!(rt; book.release(120), Ok(()));
+        assert_eq!(rt; book.withhold(164), Ok(()));
+        assert_eq!(rt; book.withhold(120), Err(Refusal::RunsFull));
     }
 
     #[test]
     fn at_most_32_quays(rt: HostRuntime) {
         let changes = [10; 40];
-        let places = places();
+        let (_, places) = worked();
         let mut book = Shutting::new(Rows::open(&changes, &places));
-        let mut refused = false;
-        for quay in 0..32 {
-            refused = number(book.shut(quay)) != 0 || refused;
-        }
-        let later = [
-            number(book.shut(32)),
-            number(book.shut(31)),
-            number(book.shut(40)),
-            number(book.open(0)),
-            number(book.shut(32)),
-            number(book.shut(0)),
-        ];
-        assert!(rt; !refused);
-        assert_eq!(rt; later, [36, 34, 11, 0, 0, 36]);
+        assert!(rt; (0..32).all(|quay| book.shut(quay).is_ok()));
+        assert_eq!(rt; book.shut(32), Err(Refusal::QuaysFull));
+        assert_eq!(rt; book.shut(31), Err(Refusal::QuayShut));
+        assert_eq!(rt; book.shut(40), Err(Refusal::NoQuay));
+        assert_eq!(rt; book.open(0), Ok(()));
+        assert_eq!(rt; book.shut(32), Ok(()));
+        assert_eq!(rt; book.shut(0), Err(Refusal::QuaysFull));
     }
 
     // Sailings of one length, one for each minute of the day and then again: the second of each minute is dominated.
-    fn fill(places: &mut [Option<Sailing>]) {
-        for i in 0..places.len() {
-            let dep = (i % 1440) as u16;
-            places[i] = sailing(1, 0, 0, 1, dep, (dep + 30) % 1440);
-        }
-    }
-
     #[test]
     fn thins_the_largest_book(rt: HostRuntime) {
-        let changes = [5, 5];
         let mut places = [None; 3072];
-        fill(&mut places);
+        for (i, place) in places.iter_mut().enumerate() {
+            let dep = (i % 1440) as u16;
+            *place = Some(Sailing {
+                run: 1,
+                leg: 0,
+                from: 0,
+                to: 1,
+                dep,
+                arr: (dep + 30) % 1440,
+            });
+        }
         let mut marks = Marks::new();
-        let count = thinning::thin::thin(&Rows::open(&changes, &places), &mut marks);
+        let count = thinning::thin::thin(&Rows::open(&[5, 5], &places), &mut marks);
         assert_eq!(rt; count, 1632);
         assert_eq!(rt;
-            [marks.holds(1439), marks.holds(1440), marks.holds(3072)],
+            [1439, 1440, 3072].map(|place| marks.holds(place)),
             [false, true, false]
         );
     }

@@ -4,6 +4,7 @@ ghost use Rattle.layers_tests.specs.Written.{written, short, right, all_right, f
 ghost use Rattle.layers_tests.specs.Fair.{fair_lawful};
 
 use timetable::book::Book;
+use timetable::limits::{MINUTES_OF_DAY, MOST_PLACES, MOST_QUAYS};
 use timetable::refusal::Refusal;
 use timetable::sailing::Sailing;
 use timetable::span::Span;
@@ -35,44 +36,31 @@ impl<'a> Rows<'a> {
 fn below_day(changes: &[u16]) -> bool
     ensures { result ≡ short changes.now }
 {
-    for c in changes {
-        if *c >= 1440 {
-            return false;
-        }
-    }
-    true
+    changes.iter().all(|c| *c < MINUTES_OF_DAY)
 }
 
-fn in_limits(place: Option<Sailing>, quays: usize) -> bool
-    ensures { result ≡ right quays place }
+fn in_limits(s: Sailing, quays: usize) -> bool
+    ensures { result ≡ right quays s }
 {
-    match place {
-        Some(s) => (s.from as usize) < quays
-            && (s.to as usize) < quays
-            && s.to != s.from
-            && s.dep < 1440
-            && s.arr < 1440,
-        None => true,
-    }
+    (s.from as usize) < quays
+        && (s.to as usize) < quays
+        && s.to != s.from
+        && s.dep < MINUTES_OF_DAY
+        && s.arr < MINUTES_OF_DAY
 }
 
 fn all_in_limits(places: &[Option<Sailing>], quays: usize) -> bool
     ensures { result ≡ all_right quays places.now }
 {
-    for x in places {
-        if !in_limits(*x, quays) {
-            return false;
-        }
-    }
-    true
+    places.iter().all(|x| x.is_none_or(|s| in_limits(s, quays)))
 }
 
 fn is_fair(changes: &[u16], places: &[Option<Sailing>]) -> bool
     ensures { result ≡ fair changes.now places.now }
 {
-    changes.len() >= 1
-        && changes.len() <= 256
-        && places.len() <= 3072
+    !changes.is_empty()
+        && changes.len() <= MOST_QUAYS as usize
+        && places.len() <= MOST_PLACES as usize
         && below_day(changes)
         && all_in_limits(places, changes.len())
 }
@@ -91,17 +79,17 @@ impl Book for Rows<'_> {
     }
 
     fn change(&self, quay: u16) -> Result<u16, Refusal> {
-        if quay as usize >= self.changes.len() {
-            return Err(Refusal::NoQuay);
-        }
-        Ok(self.changes[quay as usize])
+        self.changes
+            .get(quay as usize)
+            .copied()
+            .ok_or(Refusal::NoQuay)
     }
 
     fn place(&self, place: u16) -> Result<Option<Sailing>, Refusal> {
-        if place as usize >= self.places.len() {
-            return Err(Refusal::NoPlace);
-        }
-        Ok(self.places[place as usize])
+        self.places
+            .get(place as usize)
+            .copied()
+            .ok_or(Refusal::NoPlace)
     }
 
     fn span(&self, quay: u16) -> Result<Span, Refusal> {
