@@ -10,50 +10,39 @@ mod tests {
     use typed::text::Text;
     use typed::write::write_line;
 
-    // What a line is read as: its letter and its numbers, or E and the number of its refusal.
-    fn read(line: &[u8]) -> (u8, [u16; 4]) {
-        match read_command(line) {
-            Ok(Call::Withhold(run)) => (b'W', [run, 0, 0, 0]),
-            Ok(Call::Release(run)) => (b'R', [run, 0, 0, 0]),
-            Ok(Call::Shut(quay)) => (b'S', [quay, 0, 0, 0]),
-            Ok(Call::Open(quay)) => (b'O', [quay, 0, 0, 0]),
-            Ok(Call::Thin) => (b'T', [0; 4]),
-            Ok(Call::Route(query)) => {
-                let Query {
-                    from,
-                    to,
-                    minute,
-                    class,
-                } = query;
-                (b'Q', [from, to, minute, class])
-            }
-            Err(refusal) => (b'E', [refusal.number() as u16, 0, 0, 0]),
-        }
+    // The number of the refusal of a line.
+    fn refused(line: &[u8]) -> Option<u8> {
+        read_command(line).err().map(|refusal| refusal.number())
     }
 
-    fn refused(line: &[u8]) -> u16 {
-        match read(line) {
-            (b'E', numbers) => numbers[0],
-            _ => 0,
-        }
+    fn route(from: u16, to: u16, minute: u16, class: u16) -> Call {
+        Call::Route(Query {
+            from,
+            to,
+            minute,
+            class,
+        })
     }
 
     #[test]
     fn good_lines(rt: HostRuntime) {
-        assert_eq!(rt; read(b"W 7"), (b'W', [7, 0, 0, 0]));
-        assert_eq!(rt; read(b"R 7"), (b'R', [7, 0, 0, 0]));
-        assert_eq!(rt; read(b"S 3"), (b'S', [3, 0, 0, 0]));
-        assert_eq!(rt; read(b"O 3"), (b'O', [3, 0, 0, 0]));
-        assert_eq!(rt; read(b"T"), (b'T', [0; 4]));
-        assert_eq!(rt; read(b"Q 0 2 470 1"), (b'Q', [0, 2, 470, 1]));
-        assert_eq!(rt; read(b"W 0"), (b'W', [0; 4]));
-        assert_eq!(rt; read(b"W 00007"), (b'W', [7, 0, 0, 0]));
-        assert_eq!(rt; read(b"W 65535"), (b'W', [65535, 0, 0, 0]));
+        assert_eq!(rt; read_command(b"W 7"), Ok(Call::Withhold(7)));
+        assert_eq!(rt; read_command(b"R 7"), Ok(Call::Release(7)));
+        assert_eq!(rt; read_command(b"S 3"), Ok(Call::Shut(3)));
+        assert_eq!(rt; read_command(b"O 3"), Ok(Call::Open(3)));
+        assert_eq!(rt; read_command(b"T"), Ok(Call::Thin));
+        assert_eq!(rt; read_command(b"Q 0 2 470 1"), Ok(route(0, 2, 470, 1)));
+        assert_eq!(rt; read_command(b"W 0"), Ok(Call::Withhold(0)));
+        assert_eq!(rt; read_command(b"W 00007"), Ok(Call::Withhold(7)));
+        assert_eq!(rt; read_command(b"W 65535"), Ok(Call::Withhold(65535)));
         assert_eq!(rt;
-            read(b"Q 65535 65535 65535 65535"),
-            (b'Q', [65535, 65535, 65535, 65535])
+            read_command(b"Q 65535 65535 65535 65535"),
+            Ok(route(65535, 65535, 65535, 65535))
         );
-        assert_eq!(rt; read(b"Q 00000 00002 00470 00000"), (b'Q', [0, 2, 470, 0]));
+        assert_eq!(rt;
+            read_command(b"Q 00000 00002 00470 00000"),
+            Ok(route(0, 2, 470, 0))
+        );
     }
 
     #[test]
@@ -62,7 +51,7 @@ mod tests {
             b"", b" ", b"w 7", b" W 7", b"D 0 470", b"7", b"\0", b"\xff", b"\r", b"X W 7",
         ];
         for line in lines {
-            assert_eq!(rt; refused(line), 51);
+            assert_eq!(rt; refused(line), Some(51));
         }
     }
 
@@ -87,11 +76,11 @@ mod tests {
             b"Q 0  2 470 0",
         ];
         for line in lines {
-            assert_eq!(rt; refused(line), 52);
+            assert_eq!(rt; refused(line), Some(52));
         }
-        assert_eq!(rt; refused(b"Q 0 2 470 "), 52);
-        assert_eq!(rt; refused(b"Q 0 2x 470 0"), 52);
-        assert_eq!(rt; refused(b"Q 0 2 70000 0 1"), 52);
+        assert_eq!(rt; refused(b"Q 0 2 470 "), Some(52));
+        assert_eq!(rt; refused(b"Q 0 2x 470 0"), Some(52));
+        assert_eq!(rt; refused(b"Q 0 2 70000 0 1"), Some(52));
     }
 
     #[test]
@@ -100,31 +89,28 @@ mod tests {
             b"W 7 ", b"W 7 7", b"W 7\r", b"W 7\t", b"W 7a", b"W 7\0", b"T ", b"T 1", b"T\r",
         ];
         for line in lines {
-            assert_eq!(rt; refused(line), 53);
+            assert_eq!(rt; refused(line), Some(53));
         }
-        assert_eq!(rt; refused(b"Q 0 2 470 0 1"), 53);
-        assert_eq!(rt; refused(b"Q 0 2 470 0 "), 53);
+        assert_eq!(rt; refused(b"Q 0 2 470 0 1"), Some(53));
+        assert_eq!(rt; refused(b"Q 0 2 470 0 "), Some(53));
     }
 
     // A line of n bytes: a letter, and spaces.
-    fn of_length(n: usize, letter: u8) -> u16 {
+    fn of_length(n: usize, letter: u8) -> Option<u8> {
         let mut bytes = [b' '; 80];
         bytes[0] = letter;
-        match bytes.get(0..n) {
-            Some(line) => refused(line),
-            None => 0,
-        }
+        refused(bytes.get(..n)?)
     }
 
     #[test]
     fn length_comes_first(rt: HostRuntime) {
-        assert_eq!(rt; of_length(64, b'W'), 52);
-        assert_eq!(rt; of_length(65, b'W'), 54);
-        assert_eq!(rt; of_length(64, b'T'), 53);
-        assert_eq!(rt; of_length(65, b'T'), 54);
-        assert_eq!(rt; of_length(64, b'x'), 51);
-        assert_eq!(rt; of_length(65, b'x'), 54);
-        assert_eq!(rt; of_length(80, b'x'), 54);
+        assert_eq!(rt; of_length(64, b'W'), Some(52));
+        assert_eq!(rt; of_length(65, b'W'), Some(54));
+        assert_eq!(rt; of_length(64, b'T'), Some(53));
+        assert_eq!(rt; of_length(65, b'T'), Some(54));
+        assert_eq!(rt; of_length(64, b'x'), Some(51));
+        assert_eq!(rt; of_length(65, b'x'), Some(54));
+        assert_eq!(rt; of_length(80, b'x'), Some(54));
     }
 
     // The text fits a buffer of just its length and one of 64 bytes, leaves what follows, and is refused by one byte less.
@@ -133,23 +119,18 @@ mod tests {
         let mut long = [b'.'; 64];
         assert_eq!(rt; write_line(text, &mut long).is_ok(), true);
         assert_eq!(rt; long.get(0..n), Some(bytes));
-        for i in n..64 {
-            assert_eq!(rt; long.get(i), Some(&b'.'));
+        for byte in long.iter().skip(n) {
+            assert_eq!(rt; *byte, b'.');
         }
         let mut just = [b'.'; 64];
         if let Some(line) = just.get_mut(0..n) {
-            match write_line(text, line) {
-                Ok(len) => assert_eq!(rt; len, n),
-                Err(_) => assert_eq!(rt; n, 0),
-            }
+            assert_eq!(rt; write_line(text, line), Ok(n));
         }
         assert_eq!(rt; just.get(0..n), Some(bytes));
         let mut short = [b'.'; 64];
         if let Some(line) = short.get_mut(0..n.saturating_sub(1)) {
-            match write_line(text, line) {
-                Ok(_) => assert_eq!(rt; n, 0),
-                Err(refusal) => assert_eq!(rt; refusal.number(), 21),
-            }
+            let refusal = write_line(text, line).err().map(|refusal| refusal.number());
+            assert_eq!(rt; refusal, Some(21));
         }
         assert_eq!(rt; short, [b'.'; 64]);
     }
