@@ -7,18 +7,13 @@ use timetable::call::Call;
 use timetable::query::{Leg, Query};
 use timetable::refusal::Refusal;
 use typed::fields::number;
-use typed::read::read_command;
+use typed::read::{letter, read_command};
 
-const LONGEST_LINE: usize = 64;
-
-// Whether the line is not too long, and begins with the letter.
-fn begins(line: &[u8], letter: u8) -> Result<(), Refusal>
-    ensures { result ≡ lettered line.now letter }
+// Whether the line is not too long, and begins with the letter that is due.
+fn begins(line: &[u8], due: u8) -> Result<(), Refusal>
+    ensures { result ≡ lettered line.now due }
 {
-    if line.len() > LONGEST_LINE {
-        return Err(Refusal::LongLine);
-    }
-    if line.is_empty() || line[0] != letter {
+    if letter(line)? != due {
         return Err(Refusal::NoLetter);
     }
     Ok(())

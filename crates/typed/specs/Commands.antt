@@ -1,11 +1,15 @@
 -- What a typed line asks for. Assumes nothing.
-use Rattle.std.specs.Prelude.{ℕ, cond, List, length, Err, Result, ◌==◌, nat_lt, slice_index}
+use Rattle.std.specs.Prelude.{ℕ, cond, List, length, Ok, Err, Result, ◌==◌, nat_lt, slice_index}
 use Rattle.std.specs.Result.{result_map_both}
 use Rattle.timetable.specs.declared.refusal.Refusal.{Refusal}
 use Rattle.timetable.specs.declared.refusal.Refusal.TheVariants.{NoLetter, LongLine}
 use Rattle.timetable.specs.declared.call.Call.{Call}
 use Rattle.timetable.specs.declared.call.Call.TheVariants.{Withhold, Release, Shut, Open, Thin, Route}
 use Rattle.typed.specs.Fields.{whole, one_of, query_of}
+
+-- the letter of a line of at most 64 bytes
+abbrev pub letter_in : List ℕ → Result ℕ Refusal
+letter_in line = cond (nat_lt 64 (length line)) (Err LongLine) (cond (length line == 0) (Err NoLetter) (Ok (slice_index line 0)))
 
 -- W is byte 87, R 82, S 83, O 79, T 84 and Q 81
 abbrev pub by_letter : ℕ → List ℕ → Result Call Refusal

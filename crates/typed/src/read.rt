@@ -1,6 +1,6 @@
 //! One typed line.
-ghost use Rattle.std.specs.Prelude.{◌≡◌, ◌<◌, length, slice_index};
-ghost use Rattle.typed.specs.Commands.{by_letter, command_of};
+ghost use Rattle.std.specs.Prelude.{◌≡◌};
+ghost use Rattle.typed.specs.Commands.{letter_in, command_of};
 ghost use Rattle.typed.specs.Saying.{Says};
 
 use crate::fields::*;
@@ -9,11 +9,20 @@ use timetable::refusal::Refusal;
 
 const LONGEST_LINE: usize = 64;
 
-fn lettered(line: &[u8]) -> Result<Call, Refusal>
-    requires { 0 < length line.now }
-    ensures { result ≡ by_letter (slice_index line.now 0) line.now }
+// The letter of a line that is not too long.
+pub fn letter(line: &[u8]) -> Result<u8, Refusal>
+    ensures { result ≡ letter_in line.now }
 {
-    match line[0] {
+    if line.len() > LONGEST_LINE {
+        return Err(Refusal::LongLine);
+    }
+    line.first().copied().ok_or(Refusal::NoLetter)
+}
+
+fn command(line: &[u8]) -> Result<Call, Refusal>
+    ensures { result ≡ command_of line.now }
+{
+    match letter(line)? {
         b'W' => Ok(Call::Withhold(one_number(line)?)),
         b'R' => Ok(Call::Release(one_number(line)?)),
         b'S' => Ok(Call::Shut(one_number(line)?)),
@@ -30,15 +39,10 @@ fn lettered(line: &[u8]) -> Result<Call, Refusal>
 }
 
 // What a line asks for, without its ending. What is wrong is told in the order of the line: its length, its letter, its numbers, its end.
+#[tactic(auto, using(crate::proofs::Sayings::says))]
 pub fn read_command(line: &[u8]) -> Result<Call, Refusal>
     ensures value { result ≡ command_of line.now }
     ensures exact { Says line.now result }
 {
-    if line.len() > LONGEST_LINE {
-        return Err(Refusal::LongLine);
-    }
-    if line.is_empty() {
-        return Err(Refusal::NoLetter);
-    }
-    lettered(line)
+    command(line)
 }

@@ -5,12 +5,6 @@ use Rattle.plantext.specs.Lines.{query_in}
 use Rattle.plantext.proofs.Queried.{line_is}
 use Rattle.plantext.proofs.read.query_line.Goals as goal
 
-pub returns : goal.returns
-returns c =
-    c.query_in.ensures
-    ∙ (ap (λ r. and_then r query_in) c.in_ok-read_command.ensures.value
-    ∙ line_is c.args.line.now c.in_ok-begins.field-0 c.in_ok-begins.ensures)
-
 pub returns-in_err-read_command : goal.returns-in_err-read_command
 returns-in_err-read_command c =
     let p = err_from_is_err_and c.from_residual-in_err-read_command.result c.from_residual-in_err-read_command.ensures.1 in
