@@ -60,14 +60,12 @@ fn list_sailing(rt: &HostRuntime, place: u16, s: Sailing) -> anyhow::Result<()> 
     Ok(())
 }
 
-pub(crate) fn list_book(rt: &HostRuntime, image: &[u8]) -> anyhow::Result<()> {
-    let book = Printed::open(image);
+pub(crate) fn list_book(rt: &HostRuntime, book: &Printed, bytes: usize) -> anyhow::Result<()> {
     let quays = book.quays();
     let places = book.places();
-    let bytes = image.len();
     println!(rt; "bound {quays} quays and {places} sailings into book.img: {bytes} bytes")?;
     for quay in 0..quays {
-        list_quay(rt, &book, quay)?;
+        list_quay(rt, book, quay)?;
     }
     for place in 0..places {
         if let Ok(Some(sailing)) = book.place(place) {

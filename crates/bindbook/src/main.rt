@@ -13,10 +13,10 @@ use crate::draft::*;
 use crate::ending::without_ending;
 use crate::listing::list_book;
 use crate::messages::Failure;
-use anyhow::{Error, anyhow};
+use anyhow::anyhow;
 use binder::bind::bind;
+use books::opened::Opened;
 use booktext::line::read_line;
-use image::check::check_printed;
 use std::fs;
 use std::io::{BufRead, BufReader};
 use std::process::ExitCode;
@@ -34,18 +34,16 @@ fn read_draft(rt: &HostRuntime) -> anyhow::Result<Draft> {
             break;
         }
         let said = read_line(without_ending(line.as_slice())).map_err(|fault| {
-            Error::msg(Failure::Unreadable {
+            Failure::Unreadable {
                 line: number,
                 fault,
-            })
+            }
         })?;
         if let Some(entry) = said {
             draft.add(number, entry)?;
-            draft.fits().map_err(|excess| {
-                Error::msg(Failure::Overfull {
-                    line: number,
-                    excess,
-                })
+            draft.fits().map_err(|excess| Failure::Overfull {
+                line: number,
+                excess,
             })?;
         }
     }
@@ -57,11 +55,9 @@ fn bind_draft(rt: &HostRuntime, draft: &Draft) -> anyhow::Result<Vec<u8>> {
     let sailings = all_told(draft.sailings.as_slice(), rt.alloc())?;
     let mut image = vec![in rt.alloc(); 0u8; LONGEST_IMAGE]?;
     let len = bind(quays.as_slice(), sailings.as_slice(), image.as_mut_slice()).map_err(
-        |unbound| {
-            Error::msg(Failure::Refused {
-                line: draft.line_of(unbound),
-                unbound,
-            })
+        |unbound| Failure::Refused {
+            line: draft.line_of(unbound),
+            unbound,
         },
     )?;
     image.truncate(len);
@@ -75,10 +71,12 @@ fn run(rt: &HostRuntime) -> anyhow::Result<()> {
     fs::write(rt, "book.img.new", image.as_slice())?;
     fs::rename(rt, "book.img.new", "book.img")?;
     let written = fs::read(rt, "book.img")?;
-    if written.as_slice() != image.as_slice() || check_printed(written.as_slice()).is_err() {
-        return Err(anyhow!("book.img does not hold what was written to it"));
+    match Opened::open(written.as_slice()) {
+        Ok(Opened::Printed(book)) if written.as_slice() == image.as_slice() => {
+            list_book(rt, &book, written.len())
+        }
+        _ => Err(anyhow!("book.img does not hold what was written to it")),
     }
-    list_book(rt, written.as_slice())
 }
 
 fn main(rt: HostRuntime) -> ExitCode {

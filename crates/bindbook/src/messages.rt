@@ -2,11 +2,12 @@
 use crate::excess::Excess;
 use binder::unbound::Unbound;
 use booktext::entry::LineFault;
+use std::error::Error;
 use std::fmt;
 use timetable::refusal::Refusal;
 
 // Why no book comes of a timetable.
-#[derive(Clone, Copy)]
+#[derive(Clone, Copy, Debug)]
 pub(crate) enum Failure {
     // a line cannot be read
     Unreadable { line: u64, fault: LineFault },
@@ -36,6 +37,8 @@ impl fmt::Display for Failure {
         }
     }
 }
+
+impl Error for Failure {}
 
 fn tell_fault<W: fmt::Write>(f: &mut fmt::Formatter<W>, fault: LineFault) -> fmt::Result {
     match fault {
