@@ -64,6 +64,7 @@ pub(crate) fn list_book(rt: &HostRuntime, book: &Printed, bytes: usize) -> anyho
     let quays = book.quays();
     let places = book.places();
     println!(rt; "bound {quays} quays and {places} sailings into book.img: {bytes} bytes")?;
+    // a book has no list to go over: it is asked by number
     for quay in 0..quays {
         list_quay(rt, book, quay)?;
     }

@@ -28,6 +28,7 @@ fn read_draft(rt: &HostRuntime) -> anyhow::Result<Draft> {
     let mut input = BufReader::new(rt.alloc(), rt.stdin())?;
     let mut line: Vec<u8> = Vec::new(rt.alloc());
     let mut draft = Draft::new(rt.alloc());
+    // no split at byte 10: byte 13 before it is left out only where byte 10 stands, which a part does not show
     for number in 1..u64::MAX {
         line.clear();
         if input.read_until(b'\n', &mut line)? == 0 {

@@ -1,4 +1,5 @@
 // One line of an answer. A journey is told by a line with its arrival and the number of its legs, and then a line for each leg.
+// A number of a refusal is any byte here: a Refusal in its place would ask more of who has one told.
 #[derive(Clone, Copy)]
 pub enum Text {
     Accepted,

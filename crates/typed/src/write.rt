@@ -41,6 +41,7 @@ fn compose(text: Text) -> Line
 }
 
 // Writes a line with its ending to the front of what is lent, and tells its length. What does not fit is not begun.
+// The buffer is lent, with no Vec in its place: who has no heap can be answered too.
 pub fn write_line(text: Text, line: &mut [u8]) -> Result<usize, Refusal>
     ensures answer { result ≡ length_in (line_of text) (length line.old) }
     ensures after { line.new ≡ written_over (line_of text) line.old }
