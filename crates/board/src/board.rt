@@ -1,7 +1,7 @@
 //! The board: an opened book under the notices in effect, and the marks of the last thinning.
 ghost use Rattle.std.specs.Prelude.{◌≡◌};
 ghost use Rattle.thinning.specs.Dominance.{dominated_in};
-ghost use Rattle.routing.specs.Route.{lent, Routed};
+ghost use Rattle.routing.specs.Route.{lent_in, SameRoom, Routed};
 ghost use Rattle.timetable.specs.declared.call.Call.TheVariants.{Withhold, Release, Shut, Open, Thin, Route};
 ghost use Rattle.board.specs.declared.calls.Answer.TheVariants.{Notice, Count, Told};
 ghost use Rattle.board.specs.History.{event, new as begun};
@@ -14,9 +14,9 @@ use layers::thinned::Thinned;
 use layers::withholding::Withholding;
 use queue::line::Line;
 use routing::found::Found;
-use routing::label::Label;
+use routing::room::Room;
 use timetable::book::Book;
-use timetable::query::{Leg, Query};
+use timetable::query::Query;
 use timetable::refusal::Refusal;
 
 // From the inside out: the opened book, the runs withheld, the quays shut, and the marks. Only the methods below change it.
@@ -92,15 +92,14 @@ impl<B: Book> Board<B> {
     // An earliest journey for the query in the book in force. Marked sailings are passed over: no arrival is lost by that.
     pub fn route<L: Line>(
         &self,
-        line: &mut L,
-        labels: &mut [Label],
-        legs: &mut [Leg],
+        room: &mut Room<'_, L>,
         query: Query,
     ) -> Result<Option<Found>, Refusal>
-        ensures shown { Routed (shown (state_of B.meaning self.now)) query (lent (L.keys line.old) labels.old legs.old) (lent (L.keys line.new) labels.new legs.new) result }
-        ensures law { Carries (state_of B.meaning self.now) (event (Route query) (Told result) (lent (L.keys line.old) labels.old legs.old) (lent (L.keys line.new) labels.new legs.new)) (state_of B.meaning self.now) }
+        ensures shown { Routed (shown (state_of B.meaning self.now)) query (lent_in L.keys room.old) (lent_in L.keys room.new) result }
+        ensures law { Carries (state_of B.meaning self.now) (event (Route query) (Told result) (lent_in L.keys room.old) (lent_in L.keys room.new)) (state_of B.meaning self.now) }
+        ensures same { SameRoom room.old room.new }
     {
-        routing::route::route(&self.thinned, line, labels, legs, query)
+        routing::route::route(&self.thinned, room, query)
     }
 
     // The book in force, for other questions than routes: marked sailings stand in it.

@@ -9,6 +9,7 @@ use Rattle.timetable.specs.Timetables.{Timetable}
 use Rattle.journey.specs.Journeys.{Journey, Earliest, NoJourney, Apart}
 use Rattle.routing.specs.declared.found.Found.{Found}
 use Rattle.routing.specs.declared.label.Label.{Label}
+use Rattle.routing.specs.declared.room.Room.{Room}
 use Rattle.routing.specs.Limits.{latest}
 
 -- the first cause for refusal, if any, at these numbers of places, labels, legs and items
@@ -37,6 +38,18 @@ pub record Lent : Type 0 where
 
 abbrev pub lent : List (Option ℕ) → List Label → List Leg → Lent
 lent keys labels legs = record { keys = keys; labels = labels; legs = legs }
+
+-- what stands in a room
+abbrev pub lent_in : {L : Type 0} → (L → List (Option ℕ)) → Room L → Lent
+lent_in keys room = lent (keys room.line.now) room.labels.now room.legs.now
+
+-- a room lends the same memory as before, with as many rows
+pub record SameRoom {L : Type 0} (old new : Room L) : Type 0 where
+  pub line : new.line.ghost_name ≡ old.line.ghost_name
+  pub labels : new.labels.ghost_name ≡ old.labels.ghost_name
+  pub legs : new.legs.ghost_name ≡ old.legs.ghost_name
+  pub many_labels : length new.labels.now ≡ length old.labels.now
+  pub many_legs : length new.legs.now ≡ length old.legs.now
 
 -- the first cause for refusal over this timetable, with what is lent
 abbrev pub cause_in : Timetable → Query → Lent → Option Refusal

@@ -10,5 +10,6 @@ mod legs;
 mod minutes;
 mod relax;
 mod ride;
+pub mod room;
 pub mod route;
 mod trip;

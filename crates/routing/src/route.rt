@@ -2,13 +2,14 @@
 ghost use Rattle.std.specs.Prelude.{◌≡◌, ℕ, ◌≤◌, length};
 ghost use Rattle.routing.specs.Trips.{trip_of};
 ghost use Rattle.routing.specs.Turns.{Asked};
-ghost use Rattle.routing.specs.Route.{lent, Tells, Routed};
+ghost use Rattle.routing.specs.Route.{lent_in, SameRoom, Tells, Routed};
 
 use crate::begin::prepare;
 use crate::explore::explore;
 use crate::found::Found;
 use crate::label::Label;
 use crate::legs::write_legs;
+use crate::room::Room;
 use crate::trip::Trip;
 use queue::line::Line;
 use timetable::book::Book;
@@ -45,19 +46,18 @@ fn find<B: Book, L: Line>(
 // Labels and the line are taken in any state, and left in any.
 pub fn route<B: Book, L: Line>(
     book: &B,
-    line: &mut L,
-    labels: &mut [Label],
-    legs: &mut [Leg],
+    room: &mut Room<'_, L>,
     query: Query,
 ) -> Result<Option<Found>, Refusal>
-    ensures { Routed (B.meaning book.now) query (lent (L.keys line.old) labels.old legs.old) (lent (L.keys line.new) labels.new legs.new) result }
+    ensures routed { Routed (B.meaning book.now) query (lent_in L.keys room.old) (lent_in L.keys room.new) result }
+    ensures same { SameRoom room.old room.new }
 {
     query.check(book.quays())?;
     let places = usize::from(book.places());
-    if labels.len() < places || legs.len() < places {
+    if room.labels.len() < places || room.legs.len() < places {
         return Err(Refusal::ShortBuffer);
     }
-    if usize::from(line.size()) < places {
+    if usize::from(room.line.size()) < places {
         return Err(Refusal::SmallLine);
     }
     if query.from == query.to {
@@ -66,5 +66,11 @@ pub fn route<B: Book, L: Line>(
             legs: 0,
         }));
     }
-    Ok(find(book, line, &mut labels[..places], legs, query))
+    Ok(find(
+        book,
+        room.line,
+        &mut room.labels[..places],
+        room.legs,
+        query,
+    ))
 }
