@@ -6,6 +6,7 @@ use cases::book::worked_sailings;
 use queue::table::Table;
 use routing::found::Found;
 use routing::label::Label;
+use routing::room::Room;
 use routing_tests::quays::FourQuays;
 use std::test::Fail;
 use timetable::book::Book;
@@ -65,9 +66,14 @@ fn last(calls: &[Call]) -> Option<Answer> {
     let mut line = Table::new(6);
     let mut labels = [Label::blank(); 6];
     let mut legs = [NO_LEG; 6];
+    let mut room = Room {
+        line: &mut line,
+        labels: &mut labels,
+        legs: &mut legs,
+    };
     calls
         .iter()
-        .map(|call| apply(&mut board, &mut line, &mut labels, &mut legs, *call))
+        .map(|call| apply(&mut board, &mut room, *call))
         .last()
 }
 
@@ -137,7 +143,12 @@ fn lent(items: u16, labels: &mut [Label], legs: &mut [Leg]) -> Answer {
     let sailings = worked_sailings();
     let board = Board::new(book(&sailings));
     let mut line = Table::new(items);
-    Answer::Told(board.route(&mut line, labels, legs, query(0, 2, 470, 0)))
+    let mut room = Room {
+        line: &mut line,
+        labels,
+        legs,
+    };
+    Answer::Told(board.route(&mut room, query(0, 2, 470, 0)))
 }
 
 #[test]
@@ -215,15 +226,13 @@ fn calls_in_a_string(rt: HostRuntime) {
     let mut line = Table::new(6);
     let mut labels = [Label::blank(); 6];
     let mut legs = [NO_LEG; 6];
+    let mut room = Room {
+        line: &mut line,
+        labels: &mut labels,
+        legs: &mut legs,
+    };
     assert_eq!(rt;
-        replay_into(
-            book(&sailings),
-            &mut line,
-            &mut labels,
-            &mut legs,
-            &calls,
-            &mut answers,
-        ),
+        replay_into(book(&sailings), &mut room, &calls, &mut answers),
         2
     );
     assert_eq!(rt; answers[0], ACCEPTED);
@@ -238,14 +247,12 @@ fn calls_with_all_answers(rt: HostRuntime) -> Result<(), Fail> {
     let mut line = Table::new(6);
     let mut labels = [Label::blank(); 6];
     let mut legs = [NO_LEG; 6];
-    let answers = replay(
-        rt.alloc(),
-        book(&sailings),
-        &mut line,
-        &mut labels,
-        &mut legs,
-        &calls,
-    )?;
+    let mut room = Room {
+        line: &mut line,
+        labels: &mut labels,
+        legs: &mut legs,
+    };
+    let answers = replay(rt.alloc(), book(&sailings), &mut room, &calls)?;
     assert_eq!(rt;
         answers.as_slice(),
         [ACCEPTED, arrives(1970, 2), Answer::Count(1)].as_slice()

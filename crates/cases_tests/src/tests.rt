@@ -6,6 +6,7 @@ use cases::table::worked_cases;
 use queue::table::Table;
 use routing::found::Found;
 use routing::label::Label;
+use routing::room::Room;
 use routing_tests::quays::FourQuays;
 use tables::marks::Marks;
 use thinning::thin::thin;
@@ -35,7 +36,12 @@ fn told(case: Case, thinned: bool) -> Result<Option<Found>, Refusal> {
     let mut line = Table::new(6);
     let mut labels = [Label::blank(); 6];
     let mut legs = [NO_LEG; 6];
-    board.route(&mut line, &mut labels, &mut legs, case.query)
+    let mut room = Room {
+        line: &mut line,
+        labels: &mut labels,
+        legs: &mut legs,
+    };
+    board.route(&mut room, case.query)
 }
 
 // The arrival of a case, with as many legs as its plan has.

@@ -10,6 +10,7 @@ use board::replay::{apply, replay};
 use books::printed::Printed;
 use queue::table::Table;
 use routing::label::Label;
+use routing::room::Room;
 use std::alloc::{AllocError, Global};
 use timetable::call::Call;
 use timetable::query::Leg;
@@ -39,14 +40,12 @@ pub(crate) fn replay_all(
     calls: &[Call],
 ) -> Result<Vec<Answer>, AllocError> {
     let mut lent = Lent::new(heap, rows)?;
-    replay(
-        heap,
-        book,
-        &mut lent.line,
-        lent.labels.as_mut_slice(),
-        lent.legs.as_mut_slice(),
-        calls,
-    )
+    let mut room = Room {
+        line: &mut lent.line,
+        labels: lent.labels.as_mut_slice(),
+        legs: lent.legs.as_mut_slice(),
+    };
+    replay(heap, book, &mut room, calls)
 }
 
 // Whether call `i` left the rows of legs as its answer tells.
@@ -105,13 +104,12 @@ impl<'a> Stepper<'a> {
     // Makes call `i` on the board and on the plain sets, and compares. Tells the answer.
     fn step(&mut self, i: usize, call: Call, replayed: Answer) -> anyhow::Result<Answer> {
         self.lent.legs.fill(blank_leg(i));
-        let answer = apply(
-            &mut self.board,
-            &mut self.lent.line,
-            self.lent.labels.as_mut_slice(),
-            self.lent.legs.as_mut_slice(),
-            call,
-        );
+        let mut room = Room {
+            line: &mut self.lent.line,
+            labels: self.lent.labels.as_mut_slice(),
+            legs: self.lent.legs.as_mut_slice(),
+        };
+        let answer = apply(&mut self.board, &mut room, call);
         let computed = self.plain.answer(call)?;
         let legs_right = legs_are_right(&self.plain, call, answer, self.lent.legs.as_slice(), i);
         compare(i, answer, computed, replayed, legs_right)?;

@@ -3,6 +3,7 @@ use queue::line::Line;
 use queue::table::Table;
 use routing::found::Found;
 use routing::label::Label;
+use routing::room::Room;
 use routing::route::route;
 use timetable::query::{Leg, Query};
 use timetable::refusal::Refusal;
@@ -67,7 +68,12 @@ fn routed(change: u16, asked: Query) -> Told {
     let mut line = Table::new(6);
     let mut labels = [Label::blank(); 6];
     let mut legs = [NO_LEG; 6];
-    told(route(&book, &mut line, &mut labels, &mut legs, asked))
+    let mut room = Room {
+        line: &mut line,
+        labels: &mut labels,
+        legs: &mut legs,
+    };
+    told(route(&book, &mut room, asked))
 }
 
 // The route with this many items in the line, and short buffers.
@@ -78,7 +84,12 @@ fn lent(items: u16, labels: &mut [Label], legs: &mut [Leg], asked: Query) -> Tol
         sailings: &sailings,
     };
     let mut line = Table::new(items);
-    told(route(&book, &mut line, labels, legs, asked))
+    let mut room = Room {
+        line: &mut line,
+        labels,
+        legs,
+    };
+    told(route(&book, &mut room, asked))
 }
 
 #[test]
@@ -158,24 +169,17 @@ fn line_not_empty(rt: HostRuntime) {
     let mut legs = [NO_LEG; 6];
     let _ = line.set(3, 1);
     let _ = line.set(8, 0);
+    let mut room = Room {
+        line: &mut line,
+        labels: &mut labels,
+        legs: &mut legs,
+    };
     assert_eq!(rt;
-        told(route(
-            &book,
-            &mut line,
-            &mut labels,
-            &mut legs,
-            query(0, 2, 470, 0),
-        )),
+        told(route(&book, &mut room, query(0, 2, 470, 0))),
         journey(540, 2)
     );
     assert_eq!(rt;
-        told(route(
-            &book,
-            &mut line,
-            &mut labels,
-            &mut legs,
-            query(0, 3, 470, 0),
-        )),
+        told(route(&book, &mut room, query(0, 3, 470, 0))),
         journey(1450, 3)
     );
 }
@@ -196,24 +200,17 @@ fn turn_back(rt: HostRuntime) {
     let mut line = Table::new(4);
     let mut labels = [Label::blank(); 4];
     let mut legs = [NO_LEG; 4];
+    let mut room = Room {
+        line: &mut line,
+        labels: &mut labels,
+        legs: &mut legs,
+    };
     assert_eq!(rt;
-        told(route(
-            &book,
-            &mut line,
-            &mut labels,
-            &mut legs,
-            query(0, 2, 470, 0),
-        )),
+        told(route(&book, &mut room, query(0, 2, 470, 0))),
         journey(560, 4)
     );
     assert_eq!(rt;
-        told(route(
-            &book,
-            &mut line,
-            &mut labels,
-            &mut legs,
-            query(0, 2, 470, 2),
-        )),
+        told(route(&book, &mut room, query(0, 2, 470, 2))),
         Ok(None)
     );
 }
