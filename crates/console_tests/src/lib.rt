@@ -32,57 +32,38 @@ mod tests {
     // What the buffer holds before a call.
     const BEFORE: u8 = 9;
 
-    // Added to a code that is not 0, which lies past every departure.
-    const CODE: u32 = 10000;
-
-    // A byte that has to stand does not.
-    const SPOILT: u32 = 99999;
-
-    // The departure, or the code if that is not 0.
-    fn ask(image: &[u8], quay: u16, minute: u16) -> u32 {
+    // The departure, or the code if that is not 0. The bytes that have to stand do.
+    fn ask(rt: &impl Abort, image: &[u8], quay: u16, minute: u16) -> Result<u32, u8> {
         let mut answer = [BEFORE; 6];
         let code = canal_next_departure(image, quay, minute, &mut answer);
-        if answer[4] != BEFORE || answer[5] != BEFORE {
-            return SPOILT;
-        }
+        let [a, b, c, d, e, f] = answer;
+        assert_eq!(rt; [e, f], [BEFORE; 2]);
         if code == 0 {
-            return u32::from_le_bytes([answer[0], answer[1], answer[2], answer[3]]);
+            return Ok(u32::from_le_bytes([a, b, c, d]));
         }
-        if answer[0] != BEFORE
-            || answer[1] != BEFORE
-            || answer[2] != BEFORE
-            || answer[3] != BEFORE
-        {
-            return SPOILT;
-        }
-        CODE + code as u32
+        assert_eq!(rt; [a, b, c, d], [BEFORE; 4]);
+        Err(code)
     }
 
     // Each case is a quay, a minute and what is to be told.
-    fn all(rt: &impl Abort, image: &[u8], cases: &[(u16, u16, u32)]) {
-        for case in cases {
-            assert_eq!(rt; ask(image, case.0, case.1), case.2);
+    fn all(rt: &impl Abort, image: &[u8], cases: &[(u16, u16, Result<u32, u8>)]) {
+        for &(quay, minute, told) in cases {
+            assert_eq!(rt; ask(rt, image, quay, minute), told);
         }
     }
 
-    // Each case is a place in the printed image, another byte for it, and what is then told of quay 0.
-    fn all_changed(rt: &impl Abort, cases: &[(usize, u8, u32)]) {
-        for case in cases {
-            let mut image = PRINTED;
-            if case.0 < image.len() {
-                image[case.0] = case.1;
+    // Each case is a place in an image, another byte for it, and what is then told of quay 0.
+    fn all_changed<const N: usize>(
+        rt: &impl Abort,
+        image: [u8; N],
+        cases: &[(usize, u8, Result<u32, u8>)],
+    ) {
+        for &(at, byte, told) in cases {
+            let mut changed = image;
+            if let Some(place) = changed.get_mut(at) {
+                *place = byte;
             }
-            assert_eq!(rt; ask(&image, 0, 0), case.2);
-        }
-    }
-
-    fn all_changed_clock_face(rt: &impl Abort, cases: &[(usize, u8, u32)]) {
-        for case in cases {
-            let mut image = CLOCK_FACE;
-            if case.0 < image.len() {
-                image[case.0] = case.1;
-            }
-            assert_eq!(rt; ask(&image, 0, 0), case.2);
+            assert_eq!(rt; ask(rt, &changed, 0, 0), told);
         }
     }
 
@@ -92,25 +73,25 @@ mod tests {
             &rt,
             &PRINTED,
             &[
-                (0, 0, 470),
-                (0, 470, 470),
-                (0, 471, 480),
-                (1, 0, 505),
-                (1, 506, 510),
-                (2, 0, 1430),
+                (0, 0, Ok(470)),
+                (0, 470, Ok(470)),
+                (0, 471, Ok(480)),
+                (1, 0, Ok(505)),
+                (1, 506, Ok(510)),
+                (2, 0, Ok(1430)),
             ],
         );
         all(
             &rt,
             &CLOCK_FACE,
             &[
-                (0, 0, 360),
-                (0, 361, 375),
-                (0, 376, 390),
-                (0, 916, 930),
-                (0, 1050, 1050),
-                (1, 0, 1439),
-                (1, 1439, 1439),
+                (0, 0, Ok(360)),
+                (0, 361, Ok(375)),
+                (0, 376, Ok(390)),
+                (0, 916, Ok(930)),
+                (0, 1050, Ok(1050)),
+                (1, 0, Ok(1439)),
+                (1, 1439, Ok(1439)),
             ],
         );
     }
@@ -122,34 +103,38 @@ mod tests {
             &rt,
             &PRINTED,
             &[
-                (0, 481, 1910),
-                (0, 1439, 1910),
-                (2, 1430, 1430),
-                (2, 1431, 2870),
+                (0, 481, Ok(1910)),
+                (0, 1439, Ok(1910)),
+                (2, 1430, Ok(1430)),
+                (2, 1431, Ok(2870)),
             ],
         );
-        all(&rt, &CLOCK_FACE, &[(0, 1051, 1800), (0, 1439, 1800)]);
+        all(
+            &rt,
+            &CLOCK_FACE,
+            &[(0, 1051, Ok(1800)), (0, 1439, Ok(1800))],
+        );
     }
 
     #[test]
     fn codes_other_than_0(rt: HostRuntime) {
         // no sailing leaves the quay
-        all(&rt, &PRINTED, &[(3, 0, 10255), (3, 1439, 10255)]);
-        all(&rt, &CLOCK_FACE, &[(2, 0, 10255)]);
+        all(&rt, &PRINTED, &[(3, 0, Err(255)), (3, 1439, Err(255))]);
+        all(&rt, &CLOCK_FACE, &[(2, 0, Err(255))]);
         // there is no such quay
         all(
             &rt,
             &PRINTED,
-            &[(4, 0, 10011), (65535, 0, 10011), (4, 1440, 10011)],
+            &[(4, 0, Err(11)), (65535, 0, Err(11)), (4, 1440, Err(11))],
         );
-        all(&rt, &CLOCK_FACE, &[(3, 0, 10011)]);
+        all(&rt, &CLOCK_FACE, &[(3, 0, Err(11))]);
         // the minute is past the day
         all(
             &rt,
             &PRINTED,
-            &[(0, 1440, 10012), (3, 1440, 10012), (0, 65535, 10012)],
+            &[(0, 1440, Err(12)), (3, 1440, Err(12)), (0, 65535, Err(12))],
         );
-        all(&rt, &CLOCK_FACE, &[(0, 1440, 10012)]);
+        all(&rt, &CLOCK_FACE, &[(0, 1440, Err(12))]);
     }
 
     #[test]
@@ -171,10 +156,7 @@ mod tests {
         let mut four = [BEFORE; 4];
         let mut five = [BEFORE; 5];
         assert_eq!(rt; canal_next_departure(&PRINTED, 0, 481, &mut four), 0);
-        assert_eq!(rt; four[0], 118);
-        assert_eq!(rt; four[1], 7);
-        assert_eq!(rt; four[2], 0);
-        assert_eq!(rt; four[3], 0);
+        assert_eq!(rt; four, [118, 7, 0, 0]);
         assert_eq!(rt; canal_next_departure(&CLOCK_FACE, 0, 1051, &mut five), 0);
         assert_eq!(rt; five[0], 8);
         assert_eq!(rt; five[1], 7);
@@ -193,10 +175,10 @@ mod tests {
     #[test]
     fn images_cut_off(rt: HostRuntime) {
         for end in 0..PRINTED.len() {
-            assert_eq!(rt; ask(&PRINTED[..end], 0, 0), CODE + 1);
+            assert_eq!(rt; ask(&rt, &PRINTED[..end], 0, 0), Err(1));
         }
         for end in 0..CLOCK_FACE.len() {
-            assert_eq!(rt; ask(&CLOCK_FACE[..end], 0, 0), CODE + 1);
+            assert_eq!(rt; ask(&rt, &CLOCK_FACE[..end], 0, 0), Err(1));
         }
     }
 
@@ -205,44 +187,47 @@ mod tests {
         // records that are not due
         all_changed(
             &rt,
+            PRINTED,
             &[
-                (0, 15, 10002),
-                (2, 3, 10002),
-                (18, 4, 10002),
-                (80, 18, 10002),
+                (0, 15, Err(2)),
+                (2, 3, Err(2)),
+                (18, 4, Err(2)),
+                (80, 18, Err(2)),
             ],
         );
         // fields out of limits
         all_changed(
             &rt,
+            PRINTED,
             &[
-                (4, 0, 10003),
-                (7, 13, 10003),
-                (15, 1, 10003),
-                (21, 6, 10003),
-                (22, 31, 10003),
-                (22, 127, 10003),
-                (90, 0, 10003),
-                (93, 6, 10003),
+                (4, 0, Err(3)),
+                (7, 13, Err(3)),
+                (15, 1, Err(3)),
+                (21, 6, Err(3)),
+                (22, 31, Err(3)),
+                (22, 127, Err(3)),
+                (90, 0, Err(3)),
+                (93, 6, Err(3)),
             ],
         );
         // sailings that do not stand by quay, and bytes that follow
-        all_changed(&rt, &[(104, 2, 10004), (6, 5, 10005)]);
+        all_changed(&rt, PRINTED, &[(104, 2, Err(4)), (6, 5, Err(5))]);
     }
 
     #[test]
     fn damaged_clock_face_images(rt: HostRuntime) {
-        all_changed_clock_face(
+        all_changed(
             &rt,
+            CLOCK_FACE,
             &[
-                (66, 4, 10002),
-                (78, 0, 10003),
-                (80, 0, 10003),
-                (72, 2, 10004),
-                (6, 2, 10005),
+                (66, 4, Err(2)),
+                (78, 0, Err(3)),
+                (80, 0, Err(3)),
+                (72, 2, Err(4)),
+                (6, 2, Err(5)),
             ],
         );
         // with 36 members the last leaves at 1410, and with 37 it leaves the day
-        all_changed_clock_face(&rt, &[(80, 36, 360), (80, 37, 10006)]);
+        all_changed(&rt, CLOCK_FACE, &[(80, 36, Ok(360)), (80, 37, Err(6))]);
     }
 }
