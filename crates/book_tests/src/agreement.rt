@@ -6,7 +6,7 @@ use std::process::Abort;
 use std::test::Fail;
 
 // How many images were passed and refused.
-#[derive(Clone, Copy, PartialEq, Debug)]
+#[derive(Clone, Copy, Default, PartialEq, Debug)]
 struct Tally {
     passed: u32,
     refused: u32,
@@ -39,10 +39,7 @@ fn change_byte(
 }
 
 fn change_each_byte(rt: &impl Abort, bytes: &mut Vec<u8>) -> Result<Tally, Fail> {
-    let mut tally = Tally {
-        passed: 0,
-        refused: 0,
-    };
+    let mut tally = Tally::default();
     for at in 0..bytes.len() {
         change_byte(rt, bytes, at, &mut tally)?;
     }
@@ -51,10 +48,7 @@ fn change_each_byte(rt: &impl Abort, bytes: &mut Vec<u8>) -> Result<Tally, Fail>
 
 // A byte more, of every value, and then ever fewer bytes.
 fn change_the_length(rt: &impl Abort, bytes: &mut Vec<u8>) -> Result<Tally, Fail> {
-    let mut tally = Tally {
-        passed: 0,
-        refused: 0,
-    };
+    let mut tally = Tally::default();
     for value in 0..=255u8 {
         bytes.push(value)?;
         check_agreement(rt, bytes.as_slice(), &value);

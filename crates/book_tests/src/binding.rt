@@ -20,11 +20,7 @@ const SHORT: Result<usize, Told> = Err(Told {
 
 // A buffer whose bytes are all 170.
 fn buffer(heap: Global, len: usize) -> Result<Vec<u8>, AllocError> {
-    let mut bytes = Vec::new(heap);
-    for _ in 0..len {
-        bytes.push(170)?;
-    }
-    Ok(bytes)
+    Ok(vec![in heap; 170u8; len]?)
 }
 
 fn check_untouched(rt: &impl Abort, bytes: &[u8]) {
@@ -65,18 +61,7 @@ fn check_wrong_quay(
     if let Some(place) = quays.get_mut(row) {
         *place = quay;
     }
-    check_refused(
-        rt,
-        heap,
-        &quays,
-        &SAILINGS,
-        Told {
-            number: 3,
-            byte,
-            part: 2,
-            row,
-        },
-    )
+    check_refused(rt, heap, &quays, &SAILINGS, Told::new(3, byte, 2, row))
 }
 
 fn check_wrong_sailing(
@@ -91,18 +76,7 @@ fn check_wrong_sailing(
     if let Some(place) = sailings.get_mut(row) {
         *place = sailing;
     }
-    check_refused(
-        rt,
-        heap,
-        &QUAYS,
-        &sailings,
-        Told {
-            number,
-            byte,
-            part: 3,
-            row,
-        },
-    )
+    check_refused(rt, heap, &QUAYS, &sailings, Told::new(number, byte, 3, row))
 }
 
 #[test]
@@ -113,7 +87,7 @@ fn the_worked_book_is_bound_to_the_byte(rt: HostRuntime) -> Result<(), Fail> {
         Ok(176)
     );
     assert_eq!(rt; bytes.as_slice(), printed_bytes(rt.alloc())?.as_slice());
-    assert_eq!(rt; judge_image(bytes.as_slice()), Ok(PRINTED));
+    assert_eq!(rt; judge_image(bytes.as_slice()), Ok(Form::Printed));
     check_opens(&rt, bytes.as_slice(), &QUAYS, &SAILINGS)
 }
 
@@ -149,47 +123,24 @@ fn a_long_buffer_keeps_its_rest(rt: HostRuntime) -> Result<(), Fail> {
 
 #[test]
 fn wrong_sizes_are_refused(rt: HostRuntime) -> Result<(), Fail> {
-    let many = Told {
-        number: 3,
-        byte: 6,
-        part: 1,
-        row: 0,
-    };
-    check_refused(
-        &rt,
-        rt.alloc(),
-        &[],
-        &SAILINGS,
-        Told {
-            number: 3,
-            byte: 4,
-            part: 1,
-            row: 0,
-        },
-    )?;
+    let many = Told::new(3, 6, 1, 0);
+    check_refused(&rt, rt.alloc(), &[], &SAILINGS, Told::new(3, 4, 1, 0))?;
     check_refused(
         &rt,
         rt.alloc(),
         plain_quays(rt.alloc(), 257)?.as_slice(),
         &[],
-        Told {
-            number: 3,
-            byte: 4,
-            part: 1,
-            row: 0,
-        },
+        Told::new(3, 4, 1, 0),
     )?;
-    let mut sailings = Vec::new(rt.alloc());
-    for _ in 0..3073u32 {
-        sailings.push(Sailing {
-            run: 0,
-            leg: 0,
-            from: 9,
-            to: 9,
-            dep: 9999,
-            arr: 9999,
-        })?;
-    }
+    let wrong = Sailing {
+        run: 0,
+        leg: 0,
+        from: 9,
+        to: 9,
+        dep: 9999,
+        arr: 9999,
+    };
+    let sailings = vec![in rt.alloc(); wrong; 3073]?;
     check_refused(&rt, rt.alloc(), &QUAYS, sailings.as_slice(), many)?;
     // the size is told before a quay
     check_refused(
@@ -206,56 +157,16 @@ fn wrong_sizes_are_refused(rt: HostRuntime) -> Result<(), Fail> {
 
 #[test]
 fn a_wrong_quay_is_refused(rt: HostRuntime) -> Result<(), Fail> {
-    check_wrong_quay(
-        &rt,
-        rt.alloc(),
-        0,
-        Quay {
-            change: 1440,
-            name: *b"Abbey     ",
-        },
-        20,
-    )?;
-    check_wrong_quay(
-        &rt,
-        rt.alloc(),
-        3,
-        Quay {
-            change: 65535,
-            name: [0; 10],
-        },
-        68,
-    )?;
-    check_wrong_quay(
-        &rt,
-        rt.alloc(),
-        1,
-        Quay {
-            change: 1439,
-            name: *b"\x1fridge End",
-        },
-        38,
-    )?;
-    check_wrong_quay(
-        &rt,
-        rt.alloc(),
-        2,
-        Quay {
-            change: 0,
-            name: *b"Bridge En\x7f",
-        },
-        63,
-    )?;
-    check_wrong_quay(
-        &rt,
-        rt.alloc(),
-        3,
-        Quay {
-            change: 0,
-            name: *b"Do\x00k      ",
-        },
-        72,
-    )
+    for (row, change, name, byte) in [
+        (0usize, 1440u16, *b"Abbey     ", 20usize),
+        (3, 65535, [0; 10], 68),
+        (1, 1439, *b"\x1fridge End", 38),
+        (2, 0, *b"Bridge En\x7f", 63),
+        (3, 0, *b"Do\x00k      ", 72),
+    ] {
+        check_wrong_quay(&rt, rt.alloc(), row, Quay { change, name }, byte)?;
+    }
+    Ok(())
 }
 
 #[test]
@@ -268,46 +179,45 @@ fn a_wrong_sailing_is_refused(rt: HostRuntime) -> Result<(), Fail> {
         dep: 1439,
         arr: 1439,
     };
-    check_wrong_sailing(&rt, rt.alloc(), 3, Sailing { from: 4, ..s }, 3, 136)?;
-    check_wrong_sailing(
-        &rt,
-        rt.alloc(),
-        3,
-        Sailing {
-            from: 0,
-            to: 0,
-            ..s
-        },
-        4,
-        136,
-    )?;
-    check_wrong_sailing(&rt, rt.alloc(), 3, Sailing { to: 4, ..s }, 3, 138)?;
-    check_wrong_sailing(&rt, rt.alloc(), 3, Sailing { to: 1, ..s }, 3, 138)?;
-    check_wrong_sailing(
-        &rt,
-        rt.alloc(),
-        3,
-        Sailing {
-            dep: 1440,
-            arr: 1440,
-            ..s
-        },
-        3,
-        140,
-    )?;
-    check_wrong_sailing(&rt, rt.alloc(), 3, Sailing { arr: 1440, ..s }, 3, 142)?;
-    check_wrong_sailing(
-        &rt,
-        rt.alloc(),
-        0,
-        Sailing {
-            from: 3,
-            to: 3,
-            ..s
-        },
-        3,
-        90,
-    )
+    for (row, sailing, number, byte) in [
+        (3usize, Sailing { from: 4, ..s }, 3u8, 136usize),
+        (
+            3,
+            Sailing {
+                from: 0,
+                to: 0,
+                ..s
+            },
+            4,
+            136,
+        ),
+        (3, Sailing { to: 4, ..s }, 3, 138),
+        (3, Sailing { to: 1, ..s }, 3, 138),
+        (
+            3,
+            Sailing {
+                dep: 1440,
+                arr: 1440,
+                ..s
+            },
+            3,
+            140,
+        ),
+        (3, Sailing { arr: 1440, ..s }, 3, 142),
+        (
+            0,
+            Sailing {
+                from: 3,
+                to: 3,
+                ..s
+            },
+            3,
+            90,
+        ),
+    ] {
+        check_wrong_sailing(&rt, rt.alloc(), row, sailing, number, byte)?;
+    }
+    Ok(())
 }
 
 #[test]
@@ -315,12 +225,7 @@ fn the_buffer_is_judged_last(rt: HostRuntime) -> Result<(), Fail> {
     let quays = plain_quays(rt.alloc(), 257)?;
     assert_eq!(rt;
         bound(bind(quays.as_slice(), &[], &mut [])),
-        Err(Told {
-            number: 3,
-            byte: 4,
-            part: 1,
-            row: 0,
-        })
+        Err(Told::new(3, 4, 1, 0))
     );
     let late = [Sailing {
         run: 0,
@@ -332,12 +237,7 @@ fn the_buffer_is_judged_last(rt: HostRuntime) -> Result<(), Fail> {
     }];
     assert_eq!(rt;
         bound(bind(&QUAYS, &late, &mut [])),
-        Err(Told {
-            number: 3,
-            byte: 94,
-            part: 3,
-            row: 0,
-        })
+        Err(Told::new(3, 94, 3, 0))
     );
     assert_eq!(rt; bound(bind(&QUAYS, &[], &mut [])), SHORT);
     Ok(())

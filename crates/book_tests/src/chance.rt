@@ -142,10 +142,6 @@ impl Lots {
     }
 }
 
-fn short_len(len: usize) -> u16 {
-    u16::try_from(len).unwrap_or(0)
-}
-
 // Binds a content as its image is judged. Tells whether it was bound.
 fn check_bound(
     rt: &impl Abort,
@@ -157,7 +153,7 @@ fn check_bound(
     let mut buffer = vec![in heap; 170u8; 400]?;
     match bound(bind(quays, sailings, buffer.as_mut_slice())) {
         Ok(len) => {
-            assert_eq!(rt; read_image(image.as_slice()), Ok(PRINTED));
+            assert_eq!(rt; read_image(image.as_slice()), Ok(Form::Printed));
             assert_eq!(rt; buffer.get(0..len), Some(image.as_slice()));
             check_opens(rt, image.as_slice(), quays, sailings)?;
             Ok(true)
@@ -175,7 +171,7 @@ fn drawn_contents_are_bound_as_they_are_judged(rt: HostRuntime) -> Result<(), Fa
     let mut passed = 0u32;
     for round in 0..600u32 {
         let quays = lots.quays(rt.alloc())?;
-        let sailings = lots.sailings(rt.alloc(), short_len(quays.len()))?;
+        let sailings = lots.sailings(rt.alloc(), count(quays.len()))?;
         if check_bound(&rt, rt.alloc(), quays.as_slice(), sailings.as_slice())? {
             passed = passed.saturating_add(1);
         }
@@ -193,7 +189,7 @@ fn drawn_series_are_judged_alike(rt: HostRuntime) -> Result<(), Fail> {
     let mut passed = 0u32;
     for round in 0..600u32 {
         let quays = lots.quays(rt.alloc())?;
-        let all = lots.all_series(rt.alloc(), short_len(quays.len()))?;
+        let all = lots.all_series(rt.alloc(), count(quays.len()))?;
         let mut image = clock_face_image(rt.alloc(), quays.as_slice(), all.as_slice())?;
         check_agreement(&rt, image.as_slice(), &round);
         if judge_image(image.as_slice()).is_ok() {

@@ -18,12 +18,7 @@ fn case(at: usize, value: u16, number: u8, byte: usize, part: u8, row: usize) ->
     Damage {
         at,
         value,
-        told: Told {
-            number,
-            byte,
-            part,
-            row,
-        },
+        told: Told::new(number, byte, part, row),
     }
 }
 
@@ -179,15 +174,7 @@ fn the_earlier_byte_decides(rt: HostRuntime) -> Result<(), Fail> {
     }
     // a record that is cut off has no length
     bytes.truncate(99);
-    assert_eq!(rt;
-        judge_image(bytes.as_slice()),
-        Err(Told {
-            number: 1,
-            byte: 80,
-            part: 3,
-            row: 0,
-        })
-    );
+    assert_eq!(rt; judge_image(bytes.as_slice()), Err(Told::new(1, 80, 3, 0)));
     Ok(())
 }
 
@@ -217,17 +204,12 @@ fn a_cut_is_told_at_the_record(rt: HostRuntime) -> Result<(), Fail> {
 fn a_sound_image_is_of_one_kind(rt: HostRuntime) -> Result<(), Fail> {
     let printed = printed_bytes(rt.alloc())?;
     let clock_face = clock_face_bytes(rt.alloc())?;
-    assert_eq!(rt; judge_image(printed.as_slice()), Ok(PRINTED));
-    assert_eq!(rt; judge_image(clock_face.as_slice()), Ok(CLOCK_FACE));
-    assert_eq!(rt; judge_as(printed.as_slice(), PRINTED), Ok(()));
-    assert_eq!(rt; judge_as(clock_face.as_slice(), CLOCK_FACE), Ok(()));
-    let other = Told {
-        number: 2,
-        byte: 2,
-        part: 1,
-        row: 0,
-    };
-    assert_eq!(rt; judge_as(clock_face.as_slice(), PRINTED), Err(other));
-    assert_eq!(rt; judge_as(printed.as_slice(), CLOCK_FACE), Err(other));
+    assert_eq!(rt; judge_image(printed.as_slice()), Ok(Form::Printed));
+    assert_eq!(rt; judge_image(clock_face.as_slice()), Ok(Form::ClockFace));
+    assert_eq!(rt; judge_as(printed.as_slice(), Form::Printed), Ok(()));
+    assert_eq!(rt; judge_as(clock_face.as_slice(), Form::ClockFace), Ok(()));
+    let other = Told::new(2, 2, 1, 0);
+    assert_eq!(rt; judge_as(clock_face.as_slice(), Form::Printed), Err(other));
+    assert_eq!(rt; judge_as(printed.as_slice(), Form::ClockFace), Err(other));
     Ok(())
 }

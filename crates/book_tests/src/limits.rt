@@ -20,16 +20,11 @@ const WHOLE_DAY: Series = Series {
     length: 9,
 };
 
-fn heading_fault(number: u8, byte: usize) -> Result<u16, Told> {
-    Err(Told {
-        number,
-        byte,
-        part: 1,
-        row: 0,
-    })
+fn heading_fault(number: u8, byte: usize) -> Result<Form, Told> {
+    Err(Told::new(number, byte, 1, 0))
 }
 
-fn judge_series(heap: Global, all: &[Series]) -> Result<Result<u16, Told>, AllocError> {
+fn judge_series(heap: Global, all: &[Series]) -> Result<Result<Form, Told>, AllocError> {
     let quays = plain_quays(heap, 2)?;
     let image = clock_face_image(heap, quays.as_slice(), all)?;
     Ok(judge_image(image.as_slice()))
@@ -38,24 +33,8 @@ fn judge_series(heap: Global, all: &[Series]) -> Result<Result<u16, Told>, Alloc
 #[test]
 fn no_bytes_are_cut_off(rt: HostRuntime) {
     assert_eq!(rt; judge_image(&[]), heading_fault(1, 0));
-    assert_eq!(rt;
-        judge_as(&[], PRINTED),
-        Err(Told {
-            number: 1,
-            byte: 0,
-            part: 1,
-            row: 0,
-        })
-    );
-    assert_eq!(rt;
-        judge_as(&[], CLOCK_FACE),
-        Err(Told {
-            number: 1,
-            byte: 0,
-            part: 1,
-            row: 0,
-        })
-    );
+    assert_eq!(rt; judge_as(&[], Form::Printed), Err(Told::new(1, 0, 1, 0)));
+    assert_eq!(rt; judge_as(&[], Form::ClockFace), Err(Told::new(1, 0, 1, 0)));
 }
 
 #[test]
@@ -64,16 +43,11 @@ fn one_quay_is_enough(rt: HostRuntime) -> Result<(), Fail> {
     let mut printed = printed_image(rt.alloc(), quays.as_slice(), &[])?;
     let mut clock_face = clock_face_image(rt.alloc(), quays.as_slice(), &[])?;
     assert_eq!(rt; printed.len(), 32);
-    assert_eq!(rt; judge_image(printed.as_slice()), Ok(PRINTED));
-    assert_eq!(rt; judge_image(clock_face.as_slice()), Ok(CLOCK_FACE));
+    assert_eq!(rt; judge_image(printed.as_slice()), Ok(Form::Printed));
+    assert_eq!(rt; judge_image(clock_face.as_slice()), Ok(Form::ClockFace));
     printed.push(0)?;
     clock_face.push(14)?;
-    let follows = Told {
-        number: 5,
-        byte: 32,
-        part: 4,
-        row: 0,
-    };
+    let follows = Told::new(5, 32, 4, 0);
     assert_eq!(rt; judge_image(printed.as_slice()), Err(follows));
     assert_eq!(rt; judge_image(clock_face.as_slice()), Err(follows));
     Ok(())
@@ -84,11 +58,11 @@ fn quays_are_at_most_256(rt: HostRuntime) -> Result<(), Fail> {
     let mut quays = plain_quays(rt.alloc(), 256)?;
     assert_eq!(rt;
         judge_image(printed_image(rt.alloc(), quays.as_slice(), &[])?.as_slice()),
-        Ok(PRINTED)
+        Ok(Form::Printed)
     );
     assert_eq!(rt;
         judge_image(clock_face_image(rt.alloc(), quays.as_slice(), &[])?.as_slice()),
-        Ok(CLOCK_FACE)
+        Ok(Form::ClockFace)
     );
     quays.push(Quay {
         change: 3,
@@ -116,13 +90,10 @@ fn sailings_are_at_most_3072(rt: HostRuntime) -> Result<(), Fail> {
         arr: 1439,
     };
     let quays = plain_quays(rt.alloc(), 2)?;
-    let mut sailings = Vec::new(rt.alloc());
-    for _ in 0..3072u32 {
-        sailings.push(sailing)?;
-    }
+    let mut sailings = vec![in rt.alloc(); sailing; 3072]?;
     assert_eq!(rt;
         judge_image(printed_image(rt.alloc(), quays.as_slice(), sailings.as_slice())?.as_slice()),
-        Ok(PRINTED)
+        Ok(Form::Printed)
     );
     sailings.push(sailing)?;
     assert_eq!(rt;
@@ -134,15 +105,16 @@ fn sailings_are_at_most_3072(rt: HostRuntime) -> Result<(), Fail> {
 
 #[test]
 fn series_are_at_most_512(rt: HostRuntime) -> Result<(), Fail> {
-    let mut all = Vec::new(rt.alloc());
     // 6 members each: exactly 3,072 places
-    for _ in 0..512u32 {
-        all.push(Series {
-            count: 6,
-            ..WHOLE_DAY
-        })?;
-    }
-    assert_eq!(rt; judge_series(rt.alloc(), all.as_slice())?, Ok(CLOCK_FACE));
+    let six = Series {
+        count: 6,
+        ..WHOLE_DAY
+    };
+    let mut all = vec![in rt.alloc(); six; 512]?;
+    assert_eq!(rt;
+        judge_series(rt.alloc(), all.as_slice())?,
+        Ok(Form::ClockFace)
+    );
     all.push(Series {
         count: 1,
         ..WHOLE_DAY
@@ -164,7 +136,7 @@ fn places_are_at_most_3072(rt: HostRuntime) -> Result<(), Fail> {
             ..WHOLE_DAY
         },
     ];
-    assert_eq!(rt; judge_series(rt.alloc(), &full)?, Ok(CLOCK_FACE));
+    assert_eq!(rt; judge_series(rt.alloc(), &full)?, Ok(Form::ClockFace));
     // the third series stands at byte 88
     let over = [
         WHOLE_DAY,
@@ -176,12 +148,7 @@ fn places_are_at_most_3072(rt: HostRuntime) -> Result<(), Fail> {
     ];
     assert_eq!(rt;
         judge_series(rt.alloc(), &over)?,
-        Err(Told {
-            number: 6,
-            byte: 104,
-            part: 3,
-            row: 2,
-        })
+        Err(Told::new(6, 104, 3, 2))
     );
     let next = [
         WHOLE_DAY,
@@ -197,122 +164,67 @@ fn places_are_at_most_3072(rt: HostRuntime) -> Result<(), Fail> {
     ];
     assert_eq!(rt;
         judge_series(rt.alloc(), &next)?,
-        Err(Told {
-            number: 6,
-            byte: 124,
-            part: 3,
-            row: 3,
-        })
+        Err(Told::new(6, 124, 3, 3))
     );
     Ok(())
 }
 
 #[test]
 fn a_series_stays_in_the_day(rt: HostRuntime) -> Result<(), Fail> {
-    let leaves = Err(Told {
-        number: 6,
-        byte: 64,
-        part: 3,
-        row: 0,
-    });
+    let leaves = Err(Told::new(6, 64, 3, 0));
     let late = Series {
         first: 1400,
         count: 2,
         ..WHOLE_DAY
     };
-    assert_eq!(rt;
-        judge_series(rt.alloc(), &[Series { period: 39, ..late }])?,
-        Ok(CLOCK_FACE)
-    );
-    assert_eq!(rt;
-        judge_series(rt.alloc(), &[Series { period: 40, ..late }])?,
-        leaves
-    );
-    assert_eq!(rt; judge_series(rt.alloc(), &[WHOLE_DAY])?, Ok(CLOCK_FACE));
-    assert_eq!(rt;
-        judge_series(
-            rt.alloc(),
-            &[Series {
+    for (series, judged) in [
+        (Series { period: 39, ..late }, Ok(Form::ClockFace)),
+        (Series { period: 40, ..late }, leaves),
+        (WHOLE_DAY, Ok(Form::ClockFace)),
+        (
+            Series {
                 first: 1,
                 ..WHOLE_DAY
-            }],
-        )?,
-        leaves
-    );
-    assert_eq!(rt;
-        judge_series(
-            rt.alloc(),
-            &[Series {
+            },
+            leaves,
+        ),
+        (
+            Series {
                 period: 1439,
                 count: 2,
                 ..WHOLE_DAY
-            }],
-        )?,
-        Ok(CLOCK_FACE)
-    );
-    assert_eq!(rt;
-        judge_series(
-            rt.alloc(),
-            &[Series {
+            },
+            Ok(Form::ClockFace),
+        ),
+        (
+            Series {
                 period: 1439,
                 count: 1440,
                 ..WHOLE_DAY
-            }],
-        )?,
-        leaves
-    );
+            },
+            leaves,
+        ),
+    ] {
+        assert_eq!(rt; judge_series(rt.alloc(), &[series])?, judged);
+    }
     Ok(())
 }
 
 #[test]
 fn a_series_stays_in_the_runs(rt: HostRuntime) -> Result<(), Fail> {
-    let passes = Err(Told {
-        number: 6,
-        byte: 64,
-        part: 3,
-        row: 0,
-    });
-    assert_eq!(rt;
-        judge_series(
-            rt.alloc(),
-            &[Series {
-                run: 65535,
-                count: 1,
-                ..WHOLE_DAY
-            }],
-        )?,
-        Ok(CLOCK_FACE)
-    );
-    assert_eq!(rt;
-        judge_series(
-            rt.alloc(),
-            &[Series {
-                run: 65535,
-                count: 2,
-                ..WHOLE_DAY
-            }],
-        )?,
-        passes
-    );
-    assert_eq!(rt;
-        judge_series(
-            rt.alloc(),
-            &[Series {
-                run: 64096,
-                ..WHOLE_DAY
-            }],
-        )?,
-        Ok(CLOCK_FACE)
-    );
-    assert_eq!(rt;
-        judge_series(
-            rt.alloc(),
-            &[Series {
-                run: 64097,
-                ..WHOLE_DAY
-            }],
-        )?,
-        passes
-    );
+    let passes = Err(Told::new(6, 64, 3, 0));
+    for (run, count, judged) in [
+        (65535u16, 1u16, Ok(Form::ClockFace)),
+        (65535, 2, passes),
+        (64096, 1440, Ok(Form::ClockFace)),
+        (64097, 1440, passes),
+    ] {
+        let series = Series {
+            run,
+            count,
+            ..WHOLE_DAY
+        };
+        assert_eq!(rt; judge_series(rt.alloc(), &[series])?, judged, "{}", run);
+    }
     Ok(())
 }

@@ -1,4 +1,5 @@
 //! Images made record by record, with no check of what goes into them.
+use crate::reading::Form;
 use image::quay::Quay;
 use image::series::Series;
 use std::alloc::{AllocError, Global};
@@ -11,35 +12,81 @@ pub(crate) fn push_numbers(bytes: &mut Vec<u8>, numbers: &[u16]) -> Result<(), A
     Ok(())
 }
 
-pub(crate) fn push_heading(
-    bytes: &mut Vec<u8>,
-    kind: u16,
-    quays: u16,
-    entries: u16,
-) -> Result<(), AllocError> {
-    push_numbers(bytes, &[14, kind, quays, entries, 0, 0, 0, 0])
+// What is written as a record.
+pub(crate) trait Record {
+    fn push(&self, bytes: &mut Vec<u8>) -> Result<(), AllocError>;
 }
 
-pub(crate) fn push_quay(bytes: &mut Vec<u8>, quay: &Quay) -> Result<(), AllocError> {
-    push_numbers(bytes, &[14, 3, quay.change])?;
-    bytes.extend_from_slice(&quay.name)
+impl Record for Quay {
+    fn push(&self, bytes: &mut Vec<u8>) -> Result<(), AllocError> {
+        push_numbers(bytes, &[14, 3, self.change])?;
+        bytes.extend_from_slice(&self.name)
+    }
 }
 
-pub(crate) fn push_sailing(bytes: &mut Vec<u8>, s: &Sailing) -> Result<(), AllocError> {
-    push_numbers(bytes, &[14, 4, s.run, s.leg, s.from, s.to, s.dep, s.arr])
+impl Record for Sailing {
+    fn push(&self, bytes: &mut Vec<u8>) -> Result<(), AllocError> {
+        push_numbers(
+            bytes,
+            &[
+                14, 4, self.run, self.leg, self.from, self.to, self.dep, self.arr,
+            ],
+        )
+    }
 }
 
-pub(crate) fn push_series(bytes: &mut Vec<u8>, s: &Series) -> Result<(), AllocError> {
-    push_numbers(
-        bytes,
-        &[
-            18, 5, s.run, s.leg, s.from, s.to, s.first, s.period, s.count, s.length,
-        ],
-    )
+impl Record for Series {
+    fn push(&self, bytes: &mut Vec<u8>) -> Result<(), AllocError> {
+        push_numbers(
+            bytes,
+            &[
+                18,
+                5,
+                self.run,
+                self.leg,
+                self.from,
+                self.to,
+                self.first,
+                self.period,
+                self.count,
+                self.length,
+            ],
+        )
+    }
 }
 
-fn count(len: usize) -> u16 {
+pub(crate) fn count(len: usize) -> u16 {
     u16::try_from(len).unwrap_or(u16::MAX)
+}
+
+fn push_all<R: Record>(bytes: &mut Vec<u8>, records: &[R]) -> Result<(), AllocError> {
+    for record in records {
+        record.push(bytes)?;
+    }
+    Ok(())
+}
+
+fn image_of<E: Record>(
+    heap: Global,
+    form: Form,
+    quays: &[Quay],
+    entries: &[E],
+) -> Result<Vec<u8>, AllocError> {
+    let mut bytes = Vec::new(heap);
+    let heading = [
+        14,
+        form as u16,
+        count(quays.len()),
+        count(entries.len()),
+        0,
+        0,
+        0,
+        0,
+    ];
+    push_numbers(&mut bytes, &heading)?;
+    push_all(&mut bytes, quays)?;
+    push_all(&mut bytes, entries)?;
+    Ok(bytes)
 }
 
 pub(crate) fn printed_image(
@@ -47,15 +94,7 @@ pub(crate) fn printed_image(
     quays: &[Quay],
     sailings: &[Sailing],
 ) -> Result<Vec<u8>, AllocError> {
-    let mut bytes = Vec::new(heap);
-    push_heading(&mut bytes, 1, count(quays.len()), count(sailings.len()))?;
-    for quay in quays {
-        push_quay(&mut bytes, quay)?;
-    }
-    for sailing in sailings {
-        push_sailing(&mut bytes, sailing)?;
-    }
-    Ok(bytes)
+    image_of(heap, Form::Printed, quays, sailings)
 }
 
 pub(crate) fn clock_face_image(
@@ -63,27 +102,16 @@ pub(crate) fn clock_face_image(
     quays: &[Quay],
     all: &[Series],
 ) -> Result<Vec<u8>, AllocError> {
-    let mut bytes = Vec::new(heap);
-    push_heading(&mut bytes, 2, count(quays.len()), count(all.len()))?;
-    for quay in quays {
-        push_quay(&mut bytes, quay)?;
-    }
-    for series in all {
-        push_series(&mut bytes, series)?;
-    }
-    Ok(bytes)
+    image_of(heap, Form::ClockFace, quays, all)
 }
 
 // So many quays of one kind.
 pub(crate) fn plain_quays(heap: Global, many: usize) -> Result<Vec<Quay>, AllocError> {
-    let mut quays = Vec::new(heap);
-    for _ in 0..many {
-        quays.push(Quay {
-            change: 3,
-            name: *b"Quay      ",
-        })?;
-    }
-    Ok(quays)
+    let quay = Quay {
+        change: 3,
+        name: *b"Quay      ",
+    };
+    Ok(vec![in heap; quay; many]?)
 }
 
 pub(crate) fn set_byte(bytes: &mut Vec<u8>, at: usize, value: u8) {

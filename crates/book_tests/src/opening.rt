@@ -77,13 +77,9 @@ fn check_out_of_range<B: Book>(rt: &impl Abort, said: &str, book: &B) {
 
 // How many bytes of a name stand before its trailing spaces.
 fn written_len(name: &[u8]) -> usize {
-    let mut len = 0usize;
-    for (end, letter) in (1..=10usize).zip(name) {
-        if *letter != 32 {
-            len = end;
-        }
-    }
-    len
+    name.iter()
+        .rposition(|letter| *letter != 32)
+        .map_or(0, |last| last.saturating_add(1))
 }
 
 // A printed book has the names of these quays.

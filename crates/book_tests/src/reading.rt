@@ -9,9 +9,23 @@ pub struct Told {
     pub row: usize,
 }
 
-pub const PRINTED: u16 = 1;
+impl Told {
+    pub(crate) fn new(number: u8, byte: usize, part: u8, row: usize) -> Told {
+        Told {
+            number,
+            byte,
+            part,
+            row,
+        }
+    }
+}
 
-pub const CLOCK_FACE: u16 = 2;
+// The forms of images, with the numbers of their headings.
+#[derive(Clone, Copy, PartialEq, Debug)]
+pub enum Form {
+    Printed = 1,
+    ClockFace = 2,
+}
 
 // A record that is due: the image, where the record begins, and its row in its part.
 #[derive(Clone, Copy)]
@@ -31,12 +45,12 @@ struct Before {
 
 impl<'a> Due<'a> {
     fn told(self, number: u8, offset: usize) -> Told {
-        Told {
+        Told::new(
             number,
-            byte: self.start.saturating_add(offset),
-            part: self.part,
-            row: self.row,
-        }
+            self.start.saturating_add(offset),
+            self.part,
+            self.row,
+        )
     }
 
     fn byte(self, offset: usize) -> u8 {
@@ -50,8 +64,7 @@ impl<'a> Due<'a> {
         u16::from_le_bytes([self.byte(offset), self.byte(offset.saturating_add(1))])
     }
 
-    fn limit(self, offset: usize, low: u16, high: u16) -> Result<(), Told> {
-        let n = self.number(offset);
+    fn within(self, n: u16, offset: usize, low: u16, high: u16) -> Result<(), Told> {
         if n < low || n > high {
             Err(self.told(3, offset))
         } else {
@@ -59,13 +72,12 @@ impl<'a> Due<'a> {
         }
     }
 
-    fn limit_byte(self, offset: usize, low: u8, high: u8) -> Result<(), Told> {
-        let b = self.byte(offset);
-        if b < low || b > high {
-            Err(self.told(3, offset))
-        } else {
-            Ok(())
-        }
+    fn limit(self, offset: usize, low: u16, high: u16) -> Result<(), Told> {
+        self.within(self.number(offset), offset, low, high)
+    }
+
+    fn limit_byte(self, offset: usize, low: u16, high: u16) -> Result<(), Told> {
+        self.within(u16::from(self.byte(offset)), offset, low, high)
     }
 
     // The record is whole, and has the length and the kind due.
@@ -86,10 +98,14 @@ impl<'a> Due<'a> {
         Ok(())
     }
 
-    fn heading(self, kind: u16) -> Result<(), Told> {
-        self.frame(14, kind)?;
+    fn heading(self, form: Form) -> Result<(), Told> {
+        self.frame(14, form as u16)?;
         self.limit(4, 1, 256)?;
-        self.limit(6, 0, if kind == PRINTED { 3072 } else { 512 })?;
+        let most = match form {
+            Form::Printed => 3072,
+            Form::ClockFace => 512,
+        };
+        self.limit(6, 0, most)?;
         for offset in 8..16usize {
             self.limit_byte(offset, 0, 0)?;
         }
@@ -160,11 +176,10 @@ impl<'a> Due<'a> {
         Ok(u32::from(self.number(16)))
     }
 
-    fn entry(self, kind: u16, quays: u16, before: Before) -> Result<u32, Told> {
-        if kind == PRINTED {
-            self.sailing(quays, before)
-        } else {
-            self.series(quays, before)
+    fn entry(self, form: Form, quays: u16, before: Before) -> Result<u32, Told> {
+        match form {
+            Form::Printed => self.sailing(quays, before),
+            Form::ClockFace => self.series(quays, before),
         }
     }
 }
@@ -172,12 +187,15 @@ impl<'a> Due<'a> {
 // Reads the entries, and tells where they end.
 fn entries_end(
     bytes: &[u8],
-    kind: u16,
+    form: Form,
     quays: u16,
     entries: u16,
     first: usize,
 ) -> Result<usize, Told> {
-    let size = if kind == PRINTED { 16usize } else { 20 };
+    let size = match form {
+        Form::Printed => 16usize,
+        Form::ClockFace => 20,
+    };
     let mut before = Before { from: 0, places: 0 };
     let mut start = first;
     for row in 0..usize::from(entries) {
@@ -187,7 +205,7 @@ fn entries_end(
             part: 3,
             row,
         };
-        let taken = due.entry(kind, quays, before)?;
+        let taken = due.entry(form, quays, before)?;
         before = Before {
             from: due.number(8),
             places: before.places.saturating_add(taken),
@@ -197,15 +215,15 @@ fn entries_end(
     Ok(start)
 }
 
-// Reads the bytes as an image of this kind.
-pub(crate) fn read_as(bytes: &[u8], kind: u16) -> Result<(), Told> {
+// Reads the bytes as an image of this form.
+pub(crate) fn read_as(bytes: &[u8], form: Form) -> Result<(), Told> {
     let heading = Due {
         bytes,
         start: 0,
         part: 1,
         row: 0,
     };
-    heading.heading(kind)?;
+    heading.heading(form)?;
     let quays = heading.number(4);
     let mut start = 16usize;
     for row in 0..usize::from(quays) {
@@ -218,31 +236,26 @@ pub(crate) fn read_as(bytes: &[u8], kind: u16) -> Result<(), Told> {
         .quay()?;
         start = start.saturating_add(16);
     }
-    let end = entries_end(bytes, kind, quays, heading.number(6), start)?;
+    let end = entries_end(bytes, form, quays, heading.number(6), start)?;
     if bytes.len() > end {
-        return Err(Told {
-            number: 5,
-            byte: end,
-            part: 4,
-            row: 0,
-        });
+        return Err(Told::new(5, end, 4, 0));
     }
     Ok(())
 }
 
-// Reads the bytes as an image of the kind that they name, and tells that kind.
-pub(crate) fn read_image(bytes: &[u8]) -> Result<u16, Told> {
+// Reads the bytes as an image of the form that they name, and tells that form.
+pub(crate) fn read_image(bytes: &[u8]) -> Result<Form, Told> {
     let heading = Due {
         bytes,
         start: 0,
         part: 1,
         row: 0,
     };
-    let kind = if bytes.len() >= 4 && heading.number(2) == CLOCK_FACE {
-        CLOCK_FACE
+    let form = if bytes.len() >= 4 && heading.number(2) == Form::ClockFace as u16 {
+        Form::ClockFace
     } else {
-        PRINTED
+        Form::Printed
     };
-    read_as(bytes, kind)?;
-    Ok(kind)
+    read_as(bytes, form)?;
+    Ok(form)
 }

@@ -1,4 +1,5 @@
 //! The minutes of sailings, the classes and the refusals' numbers.
+use crate::judging::numbered;
 use timetable::classes::class_minutes;
 use timetable::refusal::Refusal;
 use timetable::sailing::Sailing;
@@ -159,13 +160,6 @@ fn no_leg_follows_the_last(rt: HostRuntime) {
     );
 }
 
-fn minutes_of(class: u16) -> Result<u16, u8> {
-    match class_minutes(class) {
-        Ok(minutes) => Ok(minutes),
-        Err(refusal) => Err(refusal.number()),
-    }
-}
-
 #[test]
 fn classes_have_their_minutes(rt: HostRuntime) {
     for (class, minutes) in [
@@ -178,47 +172,55 @@ fn classes_have_their_minutes(rt: HostRuntime) {
         (6, 30),
         (7, 45),
     ] {
-        assert_eq!(rt; minutes_of(class), Ok(minutes), "{}", class);
+        assert_eq!(rt; numbered(class_minutes(class)), Ok(minutes), "{}", class);
     }
     for class in [8u16, 9, 255, 256, 263, 32768, 65535] {
-        assert_eq!(rt; minutes_of(class), Err(14), "{}", class);
+        assert_eq!(rt; numbered(class_minutes(class)), Err(14), "{}", class);
     }
 }
 
 #[test]
 fn refusals_of_images_numbers_and_memory_are_numbered(rt: HostRuntime) {
-    assert_eq!(rt; Refusal::CutOff.number(), 1);
-    assert_eq!(rt; Refusal::NotDue.number(), 2);
-    assert_eq!(rt; Refusal::OutOfLimits.number(), 3);
-    assert_eq!(rt; Refusal::FromFalls.number(), 4);
-    assert_eq!(rt; Refusal::BytesFollow.number(), 5);
-    assert_eq!(rt; Refusal::SeriesLeaves.number(), 6);
-    assert_eq!(rt; Refusal::NoQuay.number(), 11);
-    assert_eq!(rt; Refusal::LateMinute.number(), 12);
-    assert_eq!(rt; Refusal::NoPlace.number(), 13);
-    assert_eq!(rt; Refusal::NoClass.number(), 14);
-    assert_eq!(rt; Refusal::ShortBuffer.number(), 21);
-    assert_eq!(rt; Refusal::SmallLine.number(), 22);
-    assert_eq!(rt; Refusal::HeapFull.number(), 23);
-    assert_eq!(rt; Refusal::NoRank.number(), 24);
-    assert_eq!(rt; Refusal::NoItem.number(), 25);
+    for (refusal, number) in [
+        (Refusal::CutOff, 1u8),
+        (Refusal::NotDue, 2),
+        (Refusal::OutOfLimits, 3),
+        (Refusal::FromFalls, 4),
+        (Refusal::BytesFollow, 5),
+        (Refusal::SeriesLeaves, 6),
+        (Refusal::NoQuay, 11),
+        (Refusal::LateMinute, 12),
+        (Refusal::NoPlace, 13),
+        (Refusal::NoClass, 14),
+        (Refusal::ShortBuffer, 21),
+        (Refusal::SmallLine, 22),
+        (Refusal::HeapFull, 23),
+        (Refusal::NoRank, 24),
+        (Refusal::NoItem, 25),
+    ] {
+        assert_eq!(rt; refusal.number(), number, "{}", number);
+    }
 }
 
 #[test]
 fn refusals_of_notices_plans_and_lines_are_numbered(rt: HostRuntime) {
-    assert_eq!(rt; Refusal::RunWithheld.number(), 31);
-    assert_eq!(rt; Refusal::RunNotWithheld.number(), 32);
-    assert_eq!(rt; Refusal::RunsFull.number(), 33);
-    assert_eq!(rt; Refusal::QuayShut.number(), 34);
-    assert_eq!(rt; Refusal::QuayNotShut.number(), 35);
-    assert_eq!(rt; Refusal::QuaysFull.number(), 36);
-    assert_eq!(rt; Refusal::NoSailing.number(), 41);
-    assert_eq!(rt; Refusal::WrongMinutes.number(), 42);
-    assert_eq!(rt; Refusal::WrongQuay.number(), 43);
-    assert_eq!(rt; Refusal::TooEarly.number(), 44);
-    assert_eq!(rt; Refusal::EndsElsewhere.number(), 45);
-    assert_eq!(rt; Refusal::NoLetter.number(), 51);
-    assert_eq!(rt; Refusal::NoNumber.number(), 52);
-    assert_eq!(rt; Refusal::Surplus.number(), 53);
-    assert_eq!(rt; Refusal::LongLine.number(), 54);
+    for (refusal, number) in [
+        (Refusal::RunWithheld, 31u8),
+        (Refusal::RunNotWithheld, 32),
+        (Refusal::RunsFull, 33),
+        (Refusal::QuayShut, 34),
+        (Refusal::QuayNotShut, 35),
+        (Refusal::QuaysFull, 36),
+        (Refusal::NoSailing, 41),
+        (Refusal::WrongMinutes, 42),
+        (Refusal::WrongQuay, 43),
+        (Refusal::TooEarly, 44),
+        (Refusal::EndsElsewhere, 45),
+        (Refusal::NoLetter, 51),
+        (Refusal::NoNumber, 52),
+        (Refusal::Surplus, 53),
+        (Refusal::LongLine, 54),
+    ] {
+        assert_eq!(rt; refusal.number(), number, "{}", number);
+    }
 }
