@@ -6,25 +6,12 @@ ghost use Rattle.routing.specs.Invariants.{Covers};
 ghost use Rattle.routing.specs.Relaxing.{late, Ready, Through};
 
 use crate::label::Label;
-use crate::relax::is_sooner;
+use crate::relax::relax_place;
 use crate::ride::{Origin, Ride, ride_from};
 use crate::trip::Trip;
 use queue::line::Line;
 use timetable::book::Book;
 use timetable::span::Span;
-
-// Labels the place with the ride, if that is better. It is a twin of `relax_place`: a function of one call is compiled into its caller.
-fn renew_place<L: Line>(line: &mut L, labels: &mut [Label], place: u16, ride: Ride)
-    requires inside { place < length labels.old }
-    requires linked { Linked labels.old (L.keys line.old) }
-    ensures after { labels.new ≡ slice_set labels.old place (reach (look labels.old place) ride) }
-    ensures linked { Linked labels.new (L.keys line.new) }
-{
-    if is_sooner(labels[place as usize], ride) {
-        labels[place as usize] = Label::Waiting(ride);
-        let _ = line.set(place, ride.arrives);
-    }
-}
 
 // Relaxes one place after the ride that settled the place k, if its sailing waits and continues that ride.
 // The quay is open, so that the book, which the labels are about, is not asked.
@@ -45,7 +32,7 @@ fn follow<B: Book, L: Line>(
 {
     if let Label::Waiting(waiting) = labels[place as usize] {
         if waiting.sailing.continues(ridden.sailing) {
-            renew_place(
+            relax_place(
                 line,
                 labels,
                 place,

@@ -12,7 +12,7 @@ use timetable::book::Book;
 use timetable::span::Span;
 
 // Whether the ride is better than what the label tells.
-pub(crate) fn is_sooner(label: Label, ride: Ride) -> bool
+fn is_sooner(label: Label, ride: Ride) -> bool
     ensures { result ≡ gains label ride }
 {
     match label {
@@ -23,7 +23,7 @@ pub(crate) fn is_sooner(label: Label, ride: Ride) -> bool
 }
 
 // Labels the place with the ride, if that is better.
-fn relax_place<L: Line>(line: &mut L, labels: &mut [Label], place: u16, ride: Ride)
+pub(crate) fn relax_place<L: Line>(line: &mut L, labels: &mut [Label], place: u16, ride: Ride)
     requires inside { place < length labels.old }
     requires linked { Linked labels.old (L.keys line.old) }
     ensures after { labels.new ≡ slice_set labels.old place (reach (look labels.old place) ride) }

@@ -18,9 +18,9 @@ returns-then-continues g c =
     let T = g.B.Book.meaning c.args.book.now in
     stepped T c.args.trip c.args.labels.now (g.L.Line.keys c.args.line.now) (Via c.args.k c.args.ridden c.args.change) c.requires.ready c.args.place c.in-Waiting.waiting.sailing
     (c.requires.ready.inv.made c.args.place c.in-Waiting.waiting (ap ride_of c.in-Waiting.is)).stands
-    (continues_from c.in-Waiting.waiting.sailing c.args.ridden.sailing (sym c.if-continues.ensures.value)) c.renew_place.new.labels (g.L.Line.keys c.renew_place.new.line)
-    (c.renew_place.ensures.after ∙ ap (λ n. set c.args.labels.now c.args.place (reach (look c.args.labels.now c.args.place) n)) c.ride_from.ensures)
-    c.renew_place.ensures.linked
+    (continues_from c.in-Waiting.waiting.sailing c.args.ridden.sailing (sym c.if-continues.ensures.value)) c.relax_place.new.labels (g.L.Line.keys c.relax_place.new.line)
+    (c.relax_place.ensures.after ∙ ap (λ n. set c.args.labels.now c.args.place (reach (look c.args.labels.now c.args.place) n)) c.ride_from.ensures)
+    c.relax_place.ensures.linked
 
 pub returns-else-continues : goal.returns-else-continues
 returns-else-continues g c =
