@@ -2,9 +2,10 @@
 ghost use Rattle.std.specs.Prelude.{◌≡◌, ◌^◌, ◌<◌, ◌≤◌};
 ghost use Rattle.timetable.specs.Times.{day, length_of, next};
 
+use timetable::limits::MINUTES_OF_DAY;
 use timetable::sailing::Sailing;
 
-const DAY: u32 = 1440;
+const DAY: u32 = MINUTES_OF_DAY as u32;
 
 // 1 if the first minute is before the second, else 0.
 fn before(first: u16, second: u16) -> u32

@@ -35,7 +35,8 @@ pub(crate) fn relax_place<L: Line>(line: &mut L, labels: &mut [Label], place: u1
     }
 }
 
-// Relaxes one place, if its sailing leaves the quay of the origin.
+// Relaxes one place, if its sailing leaves the quay of the origin. Book, line, labels and trip go side by side here and above:
+// over a struct of these loans each function would have to say besides that they are the same loans after it.
 fn relax<B: Book, L: Line>(
     book: &B,
     line: &mut L,

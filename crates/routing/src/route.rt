@@ -13,11 +13,12 @@ use crate::room::Room;
 use crate::trip::Trip;
 use queue::line::Line;
 use timetable::book::Book;
+use timetable::limits::MOST_QUAYS;
 use timetable::query::{Leg, Query};
 use timetable::refusal::Refusal;
 use timetable::span::Span;
 
-const MOST_QUAYS: usize = 256;
+const QUAYS: usize = MOST_QUAYS as usize;
 
 // An earliest journey between two quays, written to the first rows of `legs`.
 fn find<B: Book, L: Line>(
@@ -32,7 +33,7 @@ fn find<B: Book, L: Line>(
     ensures { Tells (B.meaning book.now) query legs.old legs.new result }
 {
     let trip = Trip::from(query);
-    let mut spans: [Option<Span>; MOST_QUAYS] = [None; MOST_QUAYS];
+    let mut spans: [Option<Span>; QUAYS] = [None; QUAYS];
     prepare(book, line, labels, &mut spans, trip);
     let (last, ride) = explore(book, line, labels, &mut spans, trip)?;
     write_legs(labels, legs, last, ride);

@@ -4,6 +4,7 @@ ghost use Rattle.routing_tests.specs.Books.{content_of, meant};
 ghost use Rattle.routing_tests.specs.Fair.{meant_lawful};
 
 use timetable::book::Book;
+use timetable::limits::{MINUTES_OF_DAY, MOST_PLACES};
 use timetable::refusal::Refusal;
 use timetable::sailing::Sailing;
 use timetable::span::Span;
@@ -15,8 +16,6 @@ pub struct FourQuays<'a> {
     pub sailings: &'a [Sailing],
 }
 
-const MOST: usize = 3072;
-
 // The sailing, where it is within its limits.
 fn content(s: Sailing) -> Option<Sailing>
     ensures { result ≡ content_of s }
@@ -27,7 +26,7 @@ fn content(s: Sailing) -> Option<Sailing>
     if s.to == s.from {
         return None;
     }
-    if s.dep >= 1440 || s.arr >= 1440 {
+    if s.dep >= MINUTES_OF_DAY || s.arr >= MINUTES_OF_DAY {
         return None;
     }
     Some(s)
@@ -43,15 +42,15 @@ impl Book for FourQuays<'_> {
     }
 
     fn places(&self) -> u16 {
-        self.sailings.len().min(MOST) as u16
+        self.sailings.len().min(MOST_PLACES as usize) as u16
     }
 
     fn change(&self, quay: u16) -> Result<u16, Refusal> {
         match quay {
-            0 => Ok(self.changes.0 % 1440),
-            1 => Ok(self.changes.1 % 1440),
-            2 => Ok(self.changes.2 % 1440),
-            3 => Ok(self.changes.3 % 1440),
+            0 => Ok(self.changes.0 % MINUTES_OF_DAY),
+            1 => Ok(self.changes.1 % MINUTES_OF_DAY),
+            2 => Ok(self.changes.2 % MINUTES_OF_DAY),
+            3 => Ok(self.changes.3 % MINUTES_OF_DAY),
             _ => Err(Refusal::NoQuay),
         }
     }
