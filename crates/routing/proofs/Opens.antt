@@ -8,13 +8,12 @@ use Rattle.timetable.specs.Times.{next, continues}
 use Rattle.timetable.specs.Timetables.{Timetable, change_at, place_at, span_at}
 use Rattle.timetable.proofs.Laws.{next-late, next_mono, continues_means}
 use Rattle.routing.specs.declared.ride.Ride.{Ride}
-use Rattle.routing.specs.declared.ride.Landing.{Landing}
 use Rattle.routing.specs.declared.ride.Origin.{Origin}
 use Rattle.routing.specs.declared.ride.Origin.TheVariants.{Start, Via}
 use Rattle.routing.specs.declared.trip.Trip.{Trip}
 use Rattle.routing.specs.declared.label.Label.{Label}
 use Rattle.routing.specs.declared.label.Label.TheVariants.{Unseen, Waiting, Settled}
-use Rattle.routing.specs.Labels.{look, ride_of}
+use Rattle.routing.specs.Labels.{look, ride_of, waiting_of}
 use Rattle.routing.specs.Invariants.{LeavesBy, Covers, Better}
 use Rattle.routing.specs.Origins.{quay_of, minute_of, due_of, stand_of}
 use Rattle.routing.specs.Relaxing.{Rooted, Ready, Through, late, Opened}
@@ -35,9 +34,9 @@ opened_later T q ls ps m n h o v span e = let (holds, covers) = o v span e in (h
 -- who changes leaves no earlier than who comes from the origin
 due_within : (T : Timetable) (q : Trip) (ls : List Label) (o : Origin) → Rooted T q ls o → (s : Sailing) → due_of o s ≤ minute_of o + (change_at T (quay_of o) + q.extra)
 due_within T q ls (Start a m) r s = omega arith
-due_within T q ls (Via l) (e, f, g) s = go (continues s l.ride.sailing)
+due_within T q ls (Via k ride w) (e, f, g) s = go (continues s ride.sailing)
   where
-    go : (b : Bool) → l.ride.arrives + cond b 0 l.change ≤ l.ride.arrives + (change_at T l.ride.sailing.to + q.extra)
+    go : (b : Bool) → ride.arrives + cond b 0 w ≤ ride.arrives + (change_at T ride.sailing.to + q.extra)
     go true = omega arith
     go false = omega arith
 
@@ -61,26 +60,37 @@ opened_more T q o ls ms ks ps span h holds opened t v new e = ⊎_elim
     (cases_eq v (quay_of o))
 
 -- at an open quay nothing is to do at a place that does not wait, or does not go on
-module _ (T : Timetable) (q : Trip) (ls : List Label) (ks : List (Option ℕ)) (l : Landing) (ready : Ready T q (Via l) ls ks)
-    (open' : Covers T ls (late T q l.ride.sailing.to l.ride.arrives) 0 (length T.places)) (p : ℕ) where
-  pub skipped : ((x : Sailing) (old : Ride) → look ls p ≡ Waiting old → place_at T p ≡ Some x → continues x l.ride.sailing ≡ true → ⊥) → Through T q (Via l) ls ls ks p (p + 1)
+module _ (T : Timetable) (q : Trip) (ls : List Label) (ks : List (Option ℕ)) (k w : ℕ) (ride : Ride) (ready : Ready T q (Via k ride w) ls ks)
+    (open' : Covers T ls (late T q ride.sailing.to ride.arrives) 0 (length T.places)) (p : ℕ) where
+  pub skipped : ((x : Sailing) (old : Ride) → look ls p ≡ Waiting old → place_at T p ≡ Some x → continues x ride.sailing ≡ true → ⊥) → Through T q (Via k ride w) ls ls ks p (p + 1)
   skipped none = record { ready = ready; better = better_refl ls; covers = at }
     where
-      by_label : (j : ℕ) (x : Sailing) (m : Label) → look ls j ≡ m → j ≡ p → place_at T j ≡ Some x → LeavesBy m (next x (l.ride.arrives + (change_at T l.ride.sailing.to + q.extra)))
-          → (b : Bool) → continues x l.ride.sailing ≡ b → LeavesBy m (next x (l.ride.arrives + cond b 0 l.change))
+      by_label : (j : ℕ) (x : Sailing) (l : Label) → look ls j ≡ l → j ≡ p → place_at T j ≡ Some x → LeavesBy l (next x (ride.arrives + (change_at T ride.sailing.to + q.extra)))
+          → (b : Bool) → continues x ride.sailing ≡ b → LeavesBy l (next x (ride.arrives + cond b 0 w))
       by_label j x Unseen at_j same e within b is = absurd within
       by_label j x (Settled old) at_j same e within b is =
           let low = ready.inv.low j old at_j in
           let made = ready.inv.made j old (ap ride_of at_j) in
-          let n = next-late x (l.ride.arrives + cond b 0 l.change) in
+          let n = next-late x (ride.arrives + cond b 0 w) in
           omega (arith, made.arrives)
       by_label j x (Waiting old) at_j same e within true is = absurd (none x old (ap (look ls) (sym same) ∙ at_j) (ap (place_at T) (sym same) ∙ e) is)
-      by_label j x (Waiting old) at_j same e within false is = subst (λ y. old.leaves ≤ next x (l.ride.arrives + y)) (sym ready.rooted.2) within
+      by_label j x (Waiting old) at_j same e within false is = subst (λ y. old.leaves ≤ next x (ride.arrives + y)) (sym ready.rooted.2) within
 
-      at : Covers T ls (stand_of (Via l)) p (p + 1)
+      at : Covers T ls (stand_of (Via k ride w)) p (p + 1)
       at j x lo hi e f =
           let same : j ≡ p = omega arith in
-          by_label j x (look ls j) refl same e (open' j x (omega arith) (stands_inside T j x e) e f) (continues x l.ride.sailing) refl
+          by_label j x (look ls j) refl same e (open' j x (omega arith) (stands_inside T j x e) e f) (continues x ride.sailing) refl
+
+pub waiting_is : (l : Label) (ride : Ride) → Some ride ≡ waiting_of l → l ≡ Waiting ride
+waiting_is Unseen ride e = let z : ◌≡◌ {A = ℕ} 0 1 = cc in absurd (omega arith)
+waiting_is (Waiting old) ride e = sym (ap {B = Label} Waiting (same ride old e))
+  where
+    same : (a b : Ride) → ◌≡◌ {A = Option Ride} (Some a) (Some b) → a ≡ b
+    same a b e = cc
+waiting_is (Settled old) ride e = let z : ◌≡◌ {A = ℕ} 0 1 = cc in absurd (omega arith)
+
+pub not_waiting : (l : Label) (old : Ride) → None ≡ waiting_of l → l ≡ Waiting old → ⊥
+not_waiting l old e f = let g = ap waiting_of f in let z : ◌≡◌ {A = ℕ} 0 1 = cc in omega arith
 
 pub continues_from : (s r : Sailing) → continues s r ≡ true → s.from ≡ r.to
 continues_from s r h = ((continues_means s r).0 h).same_quay

@@ -20,14 +20,14 @@ use Rattle.routing.proofs.Steps.{better_keeps, better_refl, better_trans, covers
 
 pub rooted_better : (T : Timetable) (q : Trip) (ls ms : List Label) (o : Origin) → Better ls ms → Rooted T q ls o → Rooted T q ms o
 rooted_better T q ls ms (Start a m) b r = r
-rooted_better T q ls ms (Via l) b (e, f, g) = (better_keeps ls ms b l.place l.ride e, f, g)
+rooted_better T q ls ms (Via k ride w) b (e, f, g) = (better_keeps ls ms b k ride e, f, g)
 
 -- a barge that sails on is due no later than one to change to
 pub due-latest : (o : Origin) (s : Sailing) → due_of o s ≤ latest_due o
 due-latest (Start quay m) s = omega arith
-due-latest (Via l) s = go (continues s l.ride.sailing)
+due-latest (Via k ride w) s = go (continues s ride.sailing)
   where
-    go : (b : Bool) → l.ride.arrives + cond b 0 l.change ≤ l.ride.arrives + l.change
+    go : (b : Bool) → ride.arrives + cond b 0 w ≤ ride.arrives + w
     go true = omega arith
     go false = omega arith
 
@@ -46,11 +46,11 @@ module _ (T : Timetable) (q : Trip) (ls : List Label) (ks : List (Option ℕ)) w
     due_late = λ s. omega arith;
     latest_soon = omega arith;
   }
-  bounds (Via l) ready =
+  bounds (Via k ride w) ready =
       let (e, f, g) = ready.rooted in
-      let made = ready.inv.made l.place l.ride (ap ride_of e) in
-      let low = ready.inv.low l.place l.ride e in
-      let change = ready.fair.lawful.change_day l.ride.sailing.to in
+      let made = ready.inv.made k ride (ap ride_of e) in
+      let low = ready.inv.low k ride e in
+      let change = ready.fair.lawful.change_day ride.sailing.to in
       let class = ready.fair.extra in
       record {
         minute = made.bound;
@@ -61,7 +61,7 @@ module _ (T : Timetable) (q : Trip) (ls : List Label) (ks : List (Option ℕ)) w
 
   from_origin : (o : Origin) (s : Sailing) → Rooted T q ls o → s.from ≡ quay_of o → From T q ls s (ride_from o s) (via_of o)
   from_origin (Start a m) s (e, f) quay = (quay ∙ e, ap (next s) f, omega arith)
-  from_origin (Via l) s (e, f, g) quay = (l.ride, l.ride.sailing, e, f, quay, ap (λ x. next s (l.ride.arrives + cond (continues s l.ride.sailing) 0 x)) g, refl)
+  from_origin (Via k ride w) s (e, f, g) quay = (ride, ride.sailing, e, f, quay, ap (λ x. next s (ride.arrives + cond (continues s ride.sailing) 0 x)) g, refl)
 
   module _ (o : Origin) (ready : Ready T q o ls ks) (p : ℕ) where
     pub small : (s : Sailing) → place_at T p ≡ Some s → Small o s

@@ -47,10 +47,7 @@ whole T q o ls ms ks span is t = record {
 -- the quay of an origin is one of the timetable's
 pub origin_quay : (T : Timetable) (q : Trip) (o : Origin) (ls : List Label) (ks : List (Option ℕ)) → Ready T q o ls ks → quay_of o < length T.changes
 origin_quay T q (Start quay m) ls ks ready = omega (arith, ready.rooted.0, ready.fair.from)
-origin_quay T q (Via l) ls ks ready = (ready.fair.lawful.within l.place l.ride.sailing ready.rooted.1).to_quay
-
-abbrev landed : ℕ → Ride → ℕ → Origin
-landed p ride w = Via (record { place = p; ride = ride; change = w })
+origin_quay T q (Via k ride w) ls ks ready = (ready.fair.lawful.within k ride.sailing ready.rooted.1).to_quay
 
 some_key : (a b : ℕ) → ◌≡◌ {A = Option ℕ} (Some a) (Some b) → a ≡ b
 some_key a b e = cc
@@ -144,7 +141,7 @@ module _ (T : Timetable) (q : Trip) (ls : List Label) (ks : List (Option ℕ)) (
           omega (arith, settles.first w.place w.ride w.waits, w.arrives);
     }
 
-    pub onward : (w : ℕ) → w ≡ change_at T ride.sailing.to + q.extra → Ready T q (landed p ride w) ms ks'
+    pub onward : (w : ℕ) → w ≡ change_at T ride.sailing.to + q.extra → Ready T q (Via p ride w) ms ks'
     onward w e = record {
       fair = going.fair;
       sized = sized_after;
@@ -155,11 +152,11 @@ module _ (T : Timetable) (q : Trip) (ls : List Label) (ks : List (Option ℕ)) (
 
     pub gone : (w : ℕ) → w ≡ change_at T ride.sailing.to + q.extra → (ride.sailing.to ≡ q.to → ⊥) → (ns : List Label) (ks'' : List (Option ℕ)) (ps' : List (Option Span))
         → length ps' ≡ length ps → Opened T q ns ps' ride.arrives
-        → Through T q (landed p ride w) ms ns ks'' 0 (length T.places) → Going T q ns ks'' ps' × (settled ns ≡ settled ls + 1)
+        → Through T q (Via p ride w) ms ns ks'' 0 (length T.places) → Going T q ns ks'' ps' × (settled ns ≡ settled ls + 1)
     gone w e away ns ks'' ps' long opened t =
         let better : Better (set ls p (Settled ride)) ns = subst (λ xs. Better xs ns) settles.after t.better in
         let covers : Covers T ns (after T q.extra ride.sailing ride.arrives) 0 (length T.places) =
-        subst (λ x. Covers T ns (stand_of (landed p ride x)) 0 (length T.places)) e t.covers in (
+        subst (λ x. Covers T ns (stand_of (Via p ride x)) 0 (length T.places)) e t.covers in (
           record {
             floor = ride.arrives;
             fair = going.fair;

@@ -14,6 +14,12 @@ ride_of Unseen = None
 ride_of (Waiting ride) = Some ride
 ride_of (Settled ride) = Some ride
 
+-- the ride of a place that waits
+abbrev pub waiting_of : Label → Option Ride
+waiting_of Unseen = None
+waiting_of (Waiting ride) = Some ride
+waiting_of (Settled ride) = None
+
 -- the key with which a place waits: its arrival
 abbrev pub key_of : Label → Option ℕ
 key_of Unseen = None

@@ -9,24 +9,24 @@ use Rattle.routing.specs.declared.ride.Origin.TheVariants.{Start, Via}
 
 abbrev pub quay_of : Origin → ℕ
 quay_of (Start quay m) = quay
-quay_of (Via l) = l.ride.sailing.to
+quay_of (Via k ride w) = ride.sailing.to
 
 abbrev pub minute_of : Origin → ℕ
 minute_of (Start quay m) = m
-minute_of (Via l) = l.ride.arrives
+minute_of (Via k ride w) = ride.arrives
 
 -- from when s may be boarded: a barge that sails on keeps its load aboard
 abbrev pub due_of : Origin → Sailing → ℕ
 due_of (Start quay m) s = m
-due_of (Via l) s = l.ride.arrives + cond (continues s l.ride.sailing) 0 l.change
+due_of (Via k ride w) s = ride.arrives + cond (continues s ride.sailing) 0 w
 
 abbrev pub via_of : Origin → Option ℕ
 via_of (Start quay m) = None
-via_of (Via l) = Some l.place
+via_of (Via k ride w) = Some k
 
 abbrev pub depth_of : Origin → ℕ
 depth_of (Start quay m) = 0
-depth_of (Via l) = l.ride.depth
+depth_of (Via k ride w) = ride.depth
 
 abbrev pub stand_of : Origin → Stand
 stand_of o = record { quay = quay_of o; minute = minute_of o; due = due_of o }
@@ -38,7 +38,7 @@ ride_from o s = record { sailing = s; leaves = next s (due_of o s); arrives = ne
 -- the latest from when any sailing must be boarded: after a change
 abbrev pub latest_due : Origin → ℕ
 latest_due (Start quay m) = m
-latest_due (Via l) = l.ride.arrives + l.change
+latest_due (Via k ride w) = ride.arrives + w
 
 -- numbers that fit
 pub record Small (o : Origin) (s : Sailing) : Type 0 where

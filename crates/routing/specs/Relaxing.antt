@@ -24,7 +24,7 @@ pub record Fair (T : Timetable) (q : Trip) : Type 0 where
 -- the origin is the trip's start, or the ride of a settled place with the minutes to change there
 abbrev pub Rooted : Timetable → Trip → List Label → Origin → Type 0
 Rooted T q ls (Start quay m) = (quay ≡ q.from) × (m ≡ q.minute)
-Rooted T q ls (Via l) = (look ls l.place ≡ Settled l.ride) × (place_at T l.place ≡ Some l.ride.sailing) × (l.change ≡ change_at T l.ride.sailing.to + q.extra)
+Rooted T q ls (Via k ride w) = (look ls k ≡ Settled ride) × (place_at T k ≡ Some ride.sailing) × (w ≡ change_at T ride.sailing.to + q.extra)
 
 pub record Ready (T : Timetable) (q : Trip) (o : Origin) (ls : List Label) (ks : List (Option ℕ)) : Type 0 where
   pub fair : Fair T q

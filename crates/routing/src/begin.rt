@@ -31,9 +31,6 @@ pub(crate) fn prepare<B: Book, L: Line>(
         labels,
         spans,
         trip,
-        Origin::Start {
-            quay: trip.from,
-            minute: trip.minute,
-        },
+        Origin::Start(trip.from, trip.minute),
     );
 }

@@ -8,7 +8,7 @@ ghost use Rattle.routing.specs.Turns.{SettledFirst, Going, Explored};
 use crate::follow::follow_span;
 use crate::label::Label;
 use crate::relax::open_quay;
-use crate::ride::{Landing, Origin, Ride};
+use crate::ride::{Origin, Ride};
 use crate::trip::Trip;
 use queue::line::Line;
 use timetable::book::Book;
@@ -34,17 +34,26 @@ fn go_on<B: Book, L: Line>(
     labels: &mut [Label],
     spans: &mut [Option<Span>],
     trip: Trip,
-    landing: Landing,
+    place: u16,
+    ride: Ride,
+    change: u32,
 )
-    requires ready { Ready (B.meaning book.now) trip (Via landing) labels.old (L.keys line.old) }
+    requires ready { Ready (B.meaning book.now) trip (Via place ride change) labels.old (L.keys line.old) }
     requires many { length (B.meaning book.now).changes ≤ length spans.old }
-    requires opened { Opened (B.meaning book.now) trip labels.old spans.old landing.ride.arrives }
-    ensures through { Through (B.meaning book.now) trip (Via landing) labels.old labels.new (L.keys line.new) 0 (length (B.meaning book.now).places) }
-    ensures opened { Opened (B.meaning book.now) trip labels.new spans.new landing.ride.arrives }
+    requires opened { Opened (B.meaning book.now) trip labels.old spans.old ride.arrives }
+    ensures through { Through (B.meaning book.now) trip (Via place ride change) labels.old labels.new (L.keys line.new) 0 (length (B.meaning book.now).places) }
+    ensures opened { Opened (B.meaning book.now) trip labels.new spans.new ride.arrives }
 {
-    match spans[landing.ride.sailing.to as usize] {
-        Some(span) => follow_span(book, line, labels, trip, landing, span),
-        None => open_quay(book, line, labels, spans, trip, Origin::Via(landing)),
+    match spans[ride.sailing.to as usize] {
+        Some(span) => follow_span(book, line, labels, trip, place, ride, change, span),
+        None => open_quay(
+            book,
+            line,
+            labels,
+            spans,
+            trip,
+            Origin::Via(place, ride, change),
+        ),
     }
 }
 
@@ -64,12 +73,7 @@ pub(crate) fn explore<B: Book, L: Line>(
             return Some((place, ride));
         }
         let change = u32::from(book.change_at(ride.sailing.to)) + trip.extra;
-        let landing = Landing {
-            place,
-            ride,
-            change,
-        };
-        go_on(book, line, labels, spans, trip, landing);
+        go_on(book, line, labels, spans, trip, place, ride, change);
     }
     None
 }

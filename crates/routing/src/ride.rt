@@ -16,27 +16,19 @@ pub struct Ride {
     pub depth: u16,
 }
 
-// Where a ride ends that settled a place: the place, the ride, and the minutes to change there.
-#[derive(Clone, Copy)]
-pub struct Landing {
-    pub place: u16,
-    pub ride: Ride,
-    pub change: u32,
-}
-
-// Where a sailing is boarded from: at a quay and minute to start with, or after a ride.
+// Where a sailing is boarded from: at a quay and minute to start with, or after the ride that settled a place, with the minutes to change there.
 #[derive(Clone, Copy)]
 pub enum Origin {
-    Start { quay: u16, minute: u32 },
-    Via(Landing),
+    Start(u16, u32),
+    Via(u16, Ride, u32),
 }
 
 pub(crate) fn quay_of(origin: Origin) -> u16
     ensures { result ≡ quay_of origin }
 {
     match origin {
-        Origin::Start { quay, .. } => quay,
-        Origin::Via(landing) => landing.ride.sailing.to,
+        Origin::Start(quay, _) => quay,
+        Origin::Via(_, ride, _) => ride.sailing.to,
     }
 }
 
@@ -47,8 +39,8 @@ fn leaves_from(origin: Origin, s: Sailing) -> u32
     ensures { result ≡ next s (due_of origin s) }
 {
     match origin {
-        Origin::Start { minute, .. } => next_leave(s, minute),
-        Origin::Via(Landing { ride, change, .. }) => {
+        Origin::Start(_, minute) => next_leave(s, minute),
+        Origin::Via(_, ride, change) => {
             if s.continues(ride.sailing) {
                 next_leave(s, ride.arrives)
             } else {
@@ -66,8 +58,8 @@ pub(crate) fn ride_from(origin: Origin, s: Sailing) -> Ride
     let leaves = leaves_from(origin, s);
     let arrives = leaves + minutes_of(s);
     let (via, depth) = match origin {
-        Origin::Start { .. } => (None, 1),
-        Origin::Via(landing) => (Some(landing.place), landing.ride.depth + 1),
+        Origin::Start(_, _) => (None, 1),
+        Origin::Via(place, ride, _) => (Some(place), ride.depth + 1),
     };
     Ride {
         sailing: s,

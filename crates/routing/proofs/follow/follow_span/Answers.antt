@@ -12,10 +12,10 @@ pub follow-requires : goal.follow-requires
 follow-requires g c = record {
   ready = c.loop-place.invariant.ready;
   inside = omega (arith, c.requires.order.1);
-  late = covers_better (g.B.Book.meaning c.args.book.now) c.args.labels.now c.loop-place.labels (late (g.B.Book.meaning c.args.book.now) c.args.trip c.args.landing.ride.sailing.to c.args.landing.ride.arrives) 0 (length (g.B.Book.meaning c.args.book.now).places) c.loop-place.invariant.better c.requires.late;
+  late = covers_better (g.B.Book.meaning c.args.book.now) c.args.labels.now c.loop-place.labels (late (g.B.Book.meaning c.args.book.now) c.args.trip c.args.ridden.sailing.to c.args.ridden.arrives) 0 (length (g.B.Book.meaning c.args.book.now).places) c.loop-place.invariant.better c.requires.late;
 }
 
 pub loop-place-preserved : goal.loop-place-preserved
 loop-place-preserved g c =
-    joined (g.B.Book.meaning c.args.book.now) c.args.trip (Via c.args.landing) c.args.labels.now c.loop-place.labels c.follow.new.labels
+    joined (g.B.Book.meaning c.args.book.now) c.args.trip (Via c.args.k c.args.ridden c.args.change) c.args.labels.now c.loop-place.labels c.follow.new.labels
     (g.L.Line.keys c.loop-place.line) (g.L.Line.keys c.follow.new.line) _ _ _ c.loop-place.invariant c.follow.ensures
