@@ -31,6 +31,9 @@ pub(crate) fn prepare<B: Book, L: Line>(
         labels,
         spans,
         trip,
-        Origin::Start(trip.from, trip.minute),
+        Origin::Start {
+            quay: trip.from,
+            minute: trip.minute,
+        },
     );
 }

@@ -52,7 +52,11 @@ fn go_on<B: Book, L: Line>(
             labels,
             spans,
             trip,
-            Origin::Via(place, ride, change),
+            Origin::Via {
+                place,
+                ride,
+                change,
+            },
         ),
     }
 }

@@ -15,6 +15,7 @@ use timetable::span::Span;
 
 // Relaxes one place after the ride that settled the place k, if its sailing waits and continues that ride.
 // The quay is open, so that the book, which the labels are about, is not asked.
+// Place, ride and change are no struct of their own: handed on as one value they are copied for each place, and a route takes up to a tenth longer.
 fn follow<B: Book, L: Line>(
     book: &B,
     line: &mut L,
@@ -36,7 +37,14 @@ fn follow<B: Book, L: Line>(
                 line,
                 labels,
                 place,
-                ride_from(Origin::Via(k, ridden, change), waiting.sailing),
+                ride_from(
+                    Origin::Via {
+                        place: k,
+                        ride: ridden,
+                        change,
+                    },
+                    waiting.sailing,
+                ),
             );
         }
     }

@@ -19,16 +19,16 @@ pub struct Ride {
 // Where a sailing is boarded from: at a quay and minute to start with, or after the ride that settled a place, with the minutes to change there.
 #[derive(Clone, Copy)]
 pub enum Origin {
-    Start(u16, u32),
-    Via(u16, Ride, u32),
+    Start { quay: u16, minute: u32 },
+    Via { place: u16, ride: Ride, change: u32 },
 }
 
 pub(crate) fn quay_of(origin: Origin) -> u16
     ensures { result ≡ quay_of origin }
 {
     match origin {
-        Origin::Start(quay, _) => quay,
-        Origin::Via(_, ride, _) => ride.sailing.to,
+        Origin::Start { quay, .. } => quay,
+        Origin::Via { ride, .. } => ride.sailing.to,
     }
 }
 
@@ -39,8 +39,8 @@ fn leaves_from(origin: Origin, s: Sailing) -> u32
     ensures { result ≡ next s (due_of origin s) }
 {
     match origin {
-        Origin::Start(_, minute) => next_leave(s, minute),
-        Origin::Via(_, ride, change) => {
+        Origin::Start { minute, .. } => next_leave(s, minute),
+        Origin::Via { ride, change, .. } => {
             if s.continues(ride.sailing) {
                 next_leave(s, ride.arrives)
             } else {
@@ -58,8 +58,8 @@ pub(crate) fn ride_from(origin: Origin, s: Sailing) -> Ride
     let leaves = leaves_from(origin, s);
     let arrives = leaves + minutes_of(s);
     let (via, depth) = match origin {
-        Origin::Start(_, _) => (None, 1),
-        Origin::Via(place, ride, _) => (Some(place), ride.depth + 1),
+        Origin::Start { .. } => (None, 1),
+        Origin::Via { place, ride, .. } => (Some(place), ride.depth + 1),
     };
     Ride {
         sailing: s,
