@@ -91,7 +91,7 @@ impl<'a> ClockFace<'a> {
         number_at(self.bytes, self.image().record(row).at + 16)
     }
 
-    // How many sailings leave a quay below this one.
+    // How many sailings leave a quay below this one. Over row numbers, since the series lie in bytes.
     fn leaving_below(&self, quay: u32) -> u16
         ensures { result ≡ below quay (clock_sailings self.now.bytes.now) }
     {
@@ -103,6 +103,7 @@ impl<'a> ClockFace<'a> {
     }
 
     // The sailing at a place, if there is one: a member of the first series that reaches so far.
+    // Over row numbers, since the series lie in bytes.
     fn member_at(&self, place: u16) -> Option<Sailing>
         ensures { result ≡ slice_index_or (map Some (clock_sailings self.now.bytes.now)) place None }
     {

@@ -60,6 +60,7 @@ impl<'a> Printed<'a> {
     }
 
     // How many sailings leave a quay below this one: found by halving, since they stand by quay.
+    // They lie in bytes, and so in no slice that std could part.
     fn leaving_below(&self, quay: u32) -> u16
         ensures { result ≡ below quay (sailings_of self.now.bytes.now) }
     {

@@ -66,6 +66,7 @@ fn check_series_at(bytes: &[u8], quays: u16, row: u16, before: u32) -> Result<u1
     Ok(s.count)
 }
 
+// Over row numbers, since the records lie in bytes: there is no slice of them.
 pub(crate) fn check_all_series(bytes: &[u8], quays: u16, entries: u16) -> Result<(), Fault>
     ensures { result ≡ up_to (series bytes.now quays) entries }
 {

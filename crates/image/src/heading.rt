@@ -49,6 +49,7 @@ fn check_quay_at(bytes: &[u8], row: u16) -> Result<(), Fault>
     check_quay(record.quay(), row)
 }
 
+// Over row numbers, since the records lie in bytes: there is no slice of them.
 pub(crate) fn check_quays(bytes: &[u8], quays: u16) -> Result<(), Fault>
     ensures { result ≡ up_to (quay bytes.now) quays }
 {

@@ -20,6 +20,7 @@ fn check_sailing_at(bytes: &[u8], quays: u16, row: u16) -> Result<(), Fault>
     check_sailing(record.sailing(), record.from_before(row), quays, row)
 }
 
+// Over row numbers, since the records lie in bytes: there is no slice of them.
 pub(crate) fn check_sailings(bytes: &[u8], quays: u16, entries: u16) -> Result<(), Fault>
     ensures { result ≡ up_to (sailing bytes.now quays) entries }
 {
