@@ -8,7 +8,7 @@ use image::quay::Quay;
 
 const LONGEST_NAME: usize = 10;
 
-// A name in ten bytes, filled up with spaces.
+// A name in ten bytes, as a quay has it, filled up with spaces.
 fn fill(name: &[u8]) -> [u8; 10]
     requires { length name.now ≤ 10 }
     ensures { result ≡ filled name.now }

@@ -12,6 +12,7 @@ const LONGEST_TEXT: usize = 128;
 pub(crate) type Line = ArrayVec<u8, LONGEST_TEXT>;
 
 // The digits of a number, the first of them before the last.
+// A recursion, and no loop: division gives the last digit first.
 fn put_digits(line: &mut Line, number: u64)
     requires { array_vec_len line.old + length (digits number) ≤ 128 }
     ensures { line.new.items ≡ line.old.items ++ digits number }
