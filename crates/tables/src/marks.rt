@@ -14,25 +14,18 @@ impl Marks {
         Marks { at: [false; 3072] }
     }
 
+    // Marks hold only for the book in which they were made: after a notice that is accepted none are left.
     pub fn erase(&mut self)
         ensures { self.new.at ≡ replicate 3072 false }
     {
         self.at = [false; 3072];
     }
 
-    // Erases the marks after a notice that was accepted: they hold only for the book in which they were made.
-    pub fn after_notice(&mut self, accepted: bool)
-        ensures { self.new.at ≡ (if accepted then replicate 3072 false else self.old.at) }
-    {
-        if accepted {
-            self.erase();
-        }
-    }
-
     // Marks a place; a place that no book has cannot be marked.
     pub fn mark(&mut self, place: u16)
         ensures { self.new.at ≡ slice_set self.old.at place true }
     {
+        // an index: of what a `get_mut` of a slice leaves the proof finds nothing
         if (place as usize) < self.at.len() {
             self.at[place as usize] = true;
         }

@@ -1,13 +1,14 @@
 -- What leaves another quay cannot outrank a sailing, so the span of its quay is all there is to look through. Assumes nothing.
-use Rattle.std.proofs.Common.{◌≡◌, ℕ, zero, suc, ◌+◌, ◌-◌, ◌<◌, ◌≤◌, Bool, true, false, ◌||◌, List, [], ◌∷◌, length, get_or, take, drop, Some, None, Option, sym, refl, ap, ◌∙◌, subst, ⊎_elim, arith}
+use Rattle.std.proofs.Common.{◌≡◌, ℕ, zero, suc, ◌+◌, ◌-◌, ◌<◌, ◌≤◌, Bool, true, false, ◌||◌, List, [], ◌∷◌, length, get_or, take, drop, MatchOption, Some, None, Option, sym, refl, ap, ◌∙◌, subst, ⊎_elim, arith}
 use Rattle.std.specs.List.{list_any, slice_range}
 use Rattle.std.proofs.lemmas.Bool.{cases_lt, cases_Bool, or_left, or_right, or_cases, true≢false, false≢true}
 use Rattle.std.proofs.lemmas.List.{get_or-drop}
 use Rattle.timetable.specs.declared.sailing.Sailing.{Sailing}
 use Rattle.timetable.specs.Timetables.{Timetable, Lawful, place_at, span_at}
 use Rattle.thinning.specs.declared.standing.Standing.{Standing}
-use Rattle.thinning.specs.Dominance.{outranks, over_from, some_below, dominated}
-use Rattle.thinning.specs.Weights.{weight_of, standing_from, row_outranks, Weighed}
+use Rattle.thinning.specs.Margins.{passes}
+use Rattle.thinning.specs.Dominance.{outranks, over_from, some_below, dominated, mark_of}
+use Rattle.thinning.specs.Weights.{weight_of, standing_from, row_outranks, Weighs}
 use Rattle.thinning.proofs.Tested.{passing, outranks_parts}
 use Rattle.thinning.proofs.Descent.{none_below}
 
@@ -81,7 +82,7 @@ module _ (f : Option Standing → Bool) where
   none_of z (suc n) (x ∷ rows) h (suc k) l = none_of z n rows (or_off (f x) (list_any f (take n rows)) h).1 k (omega arith)
 
 -- the rows of its quay decide whether q is dominated
-pub span_decides : (t : Timetable) → Lawful t → (rows : List (Option Standing)) → Weighed t rows → (q : Standing) → get_or rows q.place None ≡ Some q →
+pub span_decides : (t : Timetable) → Lawful t → (rows : List (Option Standing)) → Weighs t rows → (q : Standing) → get_or rows q.place None ≡ Some q →
     list_any (row_outranks q) (slice_range rows (span_at t q.sailing.from).start (span_at t q.sailing.from).end) ≡ dominated t q.place q.sailing
 span_decides t law rows w q e = ⊎_elim
     (λ (h : list_any f part ≡ true).
@@ -110,8 +111,20 @@ span_decides t law rows w q e = ⊎_elim
         ap f (w.each p) ∙ ap (λ (x : Standing). row_outranks x (standing_from t p (place_at t p))) is ∙ over_weighed t p q.place (place_at t p) q.sailing
 
 -- and it stands at its place
-pub stands_there : (t : Timetable) (rows : List (Option Standing)) → Weighed t rows → (p : ℕ) (q : Standing) → get_or rows p None ≡ Some q →
+stands_there : (t : Timetable) (rows : List (Option Standing)) → Weighs t rows → (p : ℕ) (q : Standing) → get_or rows p None ≡ Some q →
     (place_at t p ≡ Some q.sailing) × (q.place ≡ p)
 stands_there t rows w p q e =
     let r = stood t p (place_at t p) q (sym e ∙ w.each p) in
     (r.0, ap (λ (x : Standing). x.place) r.1)
+
+unstood : (t : Timetable) (p : ℕ) (x : Option Sailing) → None ≡ standing_from t p x → x ≡ None
+unstood t p None e = refl
+unstood t p (Some s) e = absurd (some_none _ e)
+
+-- what is answered of the row of a place is its mark
+pub row_marked : (t : Timetable) (rows : List (Option Standing)) → Weighs t rows → (p : ℕ) (row : Option Standing) → get_or rows p None ≡ row →
+    (r : Bool) (P : Standing → Type 0) → ((q : Standing) → P q → r ≡ dominated t q.place q.sailing) → MatchOption row (r ≡ false) P → r ≡ mark_of t p
+row_marked t rows w p None e r P says h = h ∙ sym (ap (passes (dominated t p)) (unstood t p (place_at t p) (sym e ∙ w.each p)))
+row_marked t rows w p (Some q) e r P says h =
+    let is = stands_there t rows w p q e in
+    says q h ∙ ap (λ n. dominated t n q.sailing) is.1 ∙ sym (ap (passes (dominated t p)) is.0)

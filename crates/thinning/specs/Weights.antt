@@ -32,6 +32,6 @@ row_outranks q None = false
 row_outranks q (Some p) = outranks_by p q
 
 -- what stands at each place of t, weighed
-pub record Weighed (t : Timetable) (rows : List (Option Standing)) : Type 0 where
+pub record Weighs (t : Timetable) (rows : List (Option Standing)) : Type 0 where
   pub wide : length rows ≡ length t.places
   pub each : (p : ℕ) → slice_index_or rows p None ≡ standing_from t p (place_at t p)

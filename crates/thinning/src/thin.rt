@@ -1,13 +1,13 @@
 //! The marking of the dominated sailings.
-ghost use Rattle.std.specs.Prelude.{◌≡◌, ℕ, ◌<◌, false, length, Some, None, slice_index_or};
+ghost use Rattle.std.specs.Prelude.{◌≡◌, ℕ, ◌<◌, false, Some, None, slice_index_or};
 ghost use Rattle.std.specs.List.{list_any};
 ghost use Rattle.timetable.specs.Hiding.{hide};
 ghost use Rattle.thinning.specs.Dominance.{dominated, mark_of, dominated_in};
 ghost use Rattle.thinning.specs.Thinning.{marked, Keeps};
-ghost use Rattle.thinning.specs.Weights.{row_outranks, Weighed};
+ghost use Rattle.thinning.specs.Weights.{row_outranks};
 
 use crate::standing::Standing;
-use crate::weighing::weigh;
+use crate::weighing::Weighed;
 use tables::marks::Marks;
 use timetable::book::Book;
 
@@ -17,51 +17,49 @@ fn some_outranks(rows: &[Option<Standing>], q: Standing) -> bool
     rows.iter().any(|row| row.is_some_and(|p| p.outranks(q)))
 }
 
-// Only what leaves the same quay can outrank q, so its span alone is looked through.
-fn is_dominated<B: Book>(book: &B, rows: &[Option<Standing>], q: Standing) -> bool
-    requires weighed { Weighed (B.Book.meaning book.now) rows.now }
-    requires stands { slice_index_or rows.now q.place None ≡ Some q }
-    ensures { result ≡ dominated (B.Book.meaning book.now) q.place q.sailing }
-{
-    let span = book.span_at(q.sailing.from);
-    some_outranks(&rows[span.start as usize..span.end as usize], q)
-}
+impl<B: Book> Weighed<'_, B> {
+    // Only what leaves the same quay can outrank q, so its span alone is looked through.
+    fn is_dominated(&self, q: Standing) -> bool
+        requires { slice_index_or self.now.rows.items q.place None ≡ Some q }
+        ensures { result ≡ dominated (B.Book.meaning self.now.book.now) q.place q.sailing }
+    {
+        let span = self.book.span_at(q.sailing.from);
+        some_outranks(&self.rows[span.start as usize..span.end as usize], q)
+    }
 
-// Whether what stands at a place, as its row says, is dominated.
-fn is_to_mark<B: Book>(
-    book: &B,
-    rows: &[Option<Standing>],
-    place: usize,
-    row: Option<Standing>,
-) -> bool
-    requires weighed { Weighed (B.Book.meaning book.now) rows.now }
-    requires stands { slice_index_or rows.now place None ≡ row }
-    ensures { result ≡ mark_of (B.Book.meaning book.now) place }
-{
-    row.is_some_and(|q| is_dominated(book, rows, q))
-}
-
-fn mark_weighed<B: Book>(book: &B, rows: &[Option<Standing>], marks: &mut Marks) -> u16
-    requires { Weighed (B.Book.meaning book.now) rows.now }
-    ensures exact { (p : ℕ) → slice_index_or marks.new.at p false ≡ mark_of (B.Book.meaning book.now) p }
-    ensures count { result ≡ dominated_in (B.Book.meaning book.now) }
-{
-    marks.erase();
-    let mut count = 0;
-    for (place, row) in rows.iter().enumerate() {
-        if is_to_mark(book, rows, place, *row) {
-            marks.mark(place as u16);
-            count += 1;
+    // Whether what stands at a place, as its row says, is dominated.
+    fn is_to_mark(&self, place: usize, row: Option<Standing>) -> bool
+        requires { slice_index_or self.now.rows.items place None ≡ row }
+        ensures { result ≡ mark_of (B.Book.meaning self.now.book.now) place }
+    {
+        // a match: a proof learns nothing of a closure that calls a method with a `requires`
+        match row {
+            Some(q) => self.is_dominated(q),
+            None => false,
         }
     }
-    count
+
+    fn mark(&self, marks: &mut Marks) -> u16
+        ensures exact { (p : ℕ) → slice_index_or marks.new.at p false ≡ mark_of (B.Book.meaning self.now.book.now) p }
+        ensures count { result ≡ dominated_in (B.Book.meaning self.now.book.now) }
+    {
+        marks.erase();
+        let mut count = 0;
+        for (place, row) in self.rows.iter().enumerate() {
+            if self.is_to_mark(place, *row) {
+                marks.mark(place as u16);
+                count += 1;
+            }
+        }
+        count
+    }
 }
 
 fn mark_dominated<B: Book>(book: &B, marks: &mut Marks) -> u16
     ensures exact { (p : ℕ) → slice_index_or marks.new.at p false ≡ mark_of (B.Book.meaning book.now) p }
     ensures count { result ≡ dominated_in (B.Book.meaning book.now) }
 {
-    mark_weighed(book, &weigh(book), marks)
+    Weighed::of(book).mark(marks)
 }
 
 // Marks the dominated sailings of a book and no other place, and tells how many they are. Whatever was marked before is forgotten.

@@ -2,7 +2,7 @@
 ghost use Rattle.std.specs.Prelude.{◌≡◌, ◌<◌};
 ghost use Rattle.timetable.specs.Times.{continues, day};
 ghost use Rattle.thinning.specs.Margins.{some_passes, margin};
-ghost use Rattle.thinning.specs.Weights.{weight_of, standing_from, Weighed};
+ghost use Rattle.thinning.specs.Weights.{weight_of, standing_from, Weighs};
 
 use crate::standing::{Standing, Weight};
 use arrayvec::ArrayVec;
@@ -10,11 +10,20 @@ use timetable::book::Book;
 use timetable::limits::MOST_PLACES;
 use timetable::sailing::Sailing;
 
-pub(crate) const MOST_ROWS: usize = MOST_PLACES as usize;
+const MOST_ROWS: usize = MOST_PLACES as usize;
+
+// A book, and what stands at each of its places, weighed.
+#[derive(Drop)]
+pub(crate) struct Weighed<'a, B: Book> {
+    pub(crate) book: &'a B,
+    pub(crate) rows: ArrayVec<Option<Standing>, MOST_ROWS>,
+    ghost each: { Weighs (B.Book.meaning book.now) rows.items },
+}
 
 // The largest figure of a class of cargo.
 const MOST: u16 = 45;
 
+// A loop over numbers: a book is asked by the number of a place, and lends no row.
 fn read<B: Book>(book: &B) -> ArrayVec<Option<Sailing>, MOST_ROWS>
     ensures { result.items ≡ (B.Book.meaning book.now).places }
 {
@@ -74,13 +83,15 @@ fn standing_of<B: Book>(
     })
 }
 
-pub(crate) fn weigh<B: Book>(book: &B) -> ArrayVec<Option<Standing>, MOST_ROWS>
-    ensures { Weighed (B.Book.meaning book.now) result.items }
-{
-    let places = read(book);
-    let mut rows = ArrayVec::new();
-    for (place, x) in places.iter().enumerate() {
-        rows.push(standing_of(book, &places, place as u16, *x));
+impl<'a, B: Book> Weighed<'a, B> {
+    pub(crate) fn of(book: &'a B) -> Weighed<'a, B>
+        ensures { result.book.now ≡ book.now }
+    {
+        let places = read(book);
+        let mut rows = ArrayVec::new();
+        for (place, x) in places.iter().enumerate() {
+            rows.push(standing_of(book, &places, place as u16, *x));
+        }
+        Weighed { book, rows }
     }
-    rows
 }

@@ -1,7 +1,7 @@
 use Rattle.std.proofs.Common.{◌≡◌, ℕ, ◌<◌, length, get_or, None}
 use Rattle.timetable.specs.Timetables.{place_at}
 use Rattle.thinning.specs.Weights.{standing_from}
-use Rattle.thinning.proofs.weighing.weigh.Given as goal
+use Rattle.thinning.proofs.weighing.Weighed.of.Given as goal
 
 abbrev pub invariant-loop-place : goal.invariant-loop-place
 invariant-loop-place g l =
