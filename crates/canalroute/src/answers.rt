@@ -16,6 +16,7 @@ use typed::write::write_line;
 // No line of an answer is longer.
 const LONGEST_LINE: usize = 64;
 
+// Functions, and no `From`: answers, refusals and lines are all types of other crates.
 pub(crate) fn refusal_text(refusal: Refusal) -> Text
     ensures { result ≡ refusal_text refusal }
 {

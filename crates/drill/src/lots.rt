@@ -1,7 +1,7 @@
 //! Numbers drawn by lot, from a fixed seed.
 ghost use Rattle.std.specs.Prelude.{◌<◌};
 
-// A linear congruential generator.
+// A linear congruential generator, and none of the kit: its draws make the books and calls of which the drill tells.
 #[derive(Drop)]
 pub(crate) struct Lots {
     state: u64,

@@ -31,6 +31,14 @@ impl Lent {
             legs: vec![in heap; blank_leg(0); rows.legs]?,
         })
     }
+
+    fn room(&mut self) -> Room<'_, Table> {
+        Room {
+            line: &mut self.line,
+            labels: self.labels.as_mut_slice(),
+            legs: self.legs.as_mut_slice(),
+        }
+    }
 }
 
 pub(crate) fn replay_all(
@@ -40,12 +48,7 @@ pub(crate) fn replay_all(
     calls: &[Call],
 ) -> Result<Vec<Answer>, AllocError> {
     let mut lent = Lent::new(heap, rows)?;
-    let mut room = Room {
-        line: &mut lent.line,
-        labels: lent.labels.as_mut_slice(),
-        legs: lent.legs.as_mut_slice(),
-    };
-    replay(heap, book, &mut room, calls)
+    replay(heap, book, &mut lent.room(), calls)
 }
 
 // Whether call `i` left the rows of legs as its answer tells.
@@ -104,12 +107,7 @@ impl<'a> Stepper<'a> {
     // Makes call `i` on the board and on the plain sets, and compares. Tells the answer.
     fn step(&mut self, i: usize, call: Call, replayed: Answer) -> anyhow::Result<Answer> {
         self.lent.legs.fill(blank_leg(i));
-        let mut room = Room {
-            line: &mut self.lent.line,
-            labels: self.lent.labels.as_mut_slice(),
-            legs: self.lent.legs.as_mut_slice(),
-        };
-        let answer = apply(&mut self.board, &mut room, call);
+        let answer = apply(&mut self.board, &mut self.lent.room(), call);
         let computed = self.plain.answer(call)?;
         let legs_right = legs_are_right(&self.plain, call, answer, self.lent.legs.as_slice(), i);
         compare(i, answer, computed, replayed, legs_right)?;

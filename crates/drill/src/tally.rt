@@ -14,7 +14,7 @@ pub(crate) struct Tally {
     none: u32,
     legs: u32,
     longest: u16,
-    // by the number of the refusal
+    // by the number of the refusal, which is what is printed; a map could run out of memory while it counts
     refused: [u32; 64],
 }
 
