@@ -25,6 +25,7 @@ const ACCEPTED: Answer = Answer::Notice(Ok(()));
 
 const NO_WAY: Answer = Answer::Told(Ok(None));
 
+// A short form for the cases below. Shared by the test crates, it would be a public function with a contract and an edit, and no plainer.
 fn query(from: u16, to: u16, minute: u16, class: u16) -> Query {
     Query {
         from,

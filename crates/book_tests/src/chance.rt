@@ -38,6 +38,7 @@ impl Lots {
         u8::try_from(self.below(256)).unwrap_or(0)
     }
 
+    // As in the drill, by another generator: what each draws is stored with its own tests.
     // Mostly a number below `n`, now and then one up to a few above.
     fn stray(&mut self, n: u16) -> u16 {
         if self.below(24) == 0 {

@@ -3,6 +3,8 @@ ghost use Rattle.image.specs.Checks.{clock_check};
 ghost use Rattle.image.specs.Records.{quays_in, entries_in, entry_at};
 
 // A book over the bytes of a clock-face image. The bytes have passed the check, so no question about them can go wrong.
+// A type of its own beside the printed book: what they share is `Image`. One type over a trait of layouts would name the check, the sailings,
+// their laws and both readings of a place as members, for four methods.
 #[derive(Clone, Copy)]
 pub struct ClockFace<'a> {
     pub(crate) bytes: &'a [u8],

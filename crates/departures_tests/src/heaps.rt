@@ -8,11 +8,6 @@ fn departure(minute: u32, place: u16) -> Departure {
     Departure { place, minute }
 }
 
-// 0 for an entry that is added or replaced, else the number of the refusal.
-fn number(answer: Result<(), Refusal>) -> u8 {
-    answer.err().map_or(0, |refusal| refusal.number())
-}
-
 // The minute and the place of what is taken; 0 and 0 if there is none.
 fn taken(heap: &mut DepartureHeap<'_>) -> (u32, u16) {
     heap.take_least()
@@ -32,7 +27,7 @@ fn the_least_is_taken_first(rt: HostRuntime) {
     let mut heap = DepartureHeap::new(&mut store);
     assert_eq!(rt; heap.len(), 0);
     for (minute, place) in [(600u32, 3u16), (510, 9), (600, 2), (4294967295, 65535)] {
-        assert_eq!(rt; number(heap.add(departure(minute, place))), 0);
+        assert_eq!(rt; heap.add(departure(minute, place)), Ok(()));
     }
     assert_eq!(rt; heap.len(), 4);
     check_order(
@@ -46,12 +41,12 @@ fn the_least_is_taken_first(rt: HostRuntime) {
 fn a_full_heap_refuses_and_a_freed_place_serves_again(rt: HostRuntime) {
     let mut store = [departure(7, 7); 2];
     let mut heap = DepartureHeap::new(&mut store);
-    assert_eq!(rt; number(heap.add(departure(20, 1))), 0);
-    assert_eq!(rt; number(heap.add(departure(10, 1))), 0);
-    assert_eq!(rt; number(heap.add(departure(5, 1))), 23);
+    assert_eq!(rt; heap.add(departure(20, 1)), Ok(()));
+    assert_eq!(rt; heap.add(departure(10, 1)), Ok(()));
+    assert_eq!(rt; heap.add(departure(5, 1)), Err(Refusal::HeapFull));
     check_order(&rt, &mut heap, &[(10, 1)]);
-    assert_eq!(rt; number(heap.add(departure(30, 1))), 0);
-    assert_eq!(rt; number(heap.add(departure(5, 1))), 23);
+    assert_eq!(rt; heap.add(departure(30, 1)), Ok(()));
+    assert_eq!(rt; heap.add(departure(5, 1)), Err(Refusal::HeapFull));
     check_order(&rt, &mut heap, &[(20, 1), (30, 1), (0, 0)]);
 }
 
@@ -60,10 +55,13 @@ fn one_of_a_rank_is_replaced(rt: HostRuntime) {
     let mut store = [departure(7, 7); 3];
     let mut heap = DepartureHeap::new(&mut store);
     for minute in [10u32, 20, 30] {
-        assert_eq!(rt; number(heap.add(departure(minute, 1))), 0);
+        assert_eq!(rt; heap.add(departure(minute, 1)), Ok(()));
     }
-    assert_eq!(rt; number(heap.replace(30 * 65536 + 1, departure(5, 2))), 0);
-    assert_eq!(rt; number(heap.replace(30 * 65536 + 1, departure(6, 2))), 24);
+    assert_eq!(rt; heap.replace(30 * 65536 + 1, departure(5, 2)), Ok(()));
+    assert_eq!(rt;
+        heap.replace(30 * 65536 + 1, departure(6, 2)),
+        Err(Refusal::NoRank)
+    );
     assert_eq!(rt; heap.len(), 3);
     check_order(&rt, &mut heap, &[(5, 2), (10, 1), (20, 1), (0, 0)]);
 }

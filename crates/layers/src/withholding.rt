@@ -37,6 +37,7 @@ impl Rule for Runs {
 pub type Withholding<B> = Layer<B, Runs>;
 
 impl<B: Book> Layer<B, Runs> {
+    // The notices for runs and those for quays are a few lines each with refusals of their own, and those for quays ask for the quay, too: one for both is no plainer.
     // Takes the sailings of a run out of force.
     pub fn withhold(&mut self, run: u16) -> Result<(), Refusal>
         ensures answer { result ≡ withhold_answer (has run (kept self.old.rule.runs)) (length (kept self.old.rule.runs)) }

@@ -58,6 +58,7 @@ fn better(best: Option<(u16, u32)>, item: u16, key: u32) -> Option<(u16, u32)>
     }
 }
 
+// (A chain to `min_by_key` is no plainer: what the library says of equals does not name the lowest item.)
 // The item to be taken first, with its key.
 fn first(keys: &[Option<u32>]) -> Option<(u16, u32)>
     requires { length keys.now ≤ most_items }

@@ -15,6 +15,7 @@ pub(crate) fn write_legs(labels: &[Label], legs: &mut [Leg], last: u16, ride: Ri
 {
     let mut at = last;
     let mut cur = ride;
+    // goes back along `via`: no index is counted
     'back: loop {
         legs[cur.depth as usize - 1] = Leg {
             place: at,

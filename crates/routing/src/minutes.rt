@@ -7,6 +7,7 @@ use timetable::sailing::Sailing;
 
 const DAY: u32 = MINUTES_OF_DAY as u32;
 
+// (A function, since its clauses are the two cases, which a sum of the byte of a test does not tell.)
 // 1 if the first minute is before the second, else 0.
 fn before(first: u16, second: u16) -> u32
     ensures one { result ≤ 1 }

@@ -9,6 +9,7 @@ use timetable::query::{Leg, Query};
 use timetable::refusal::Refusal;
 use timetable::sailing::Sailing;
 
+// A short form for the sailings below. Shared by the test crates, it would be a public function with a contract and an edit, and no plainer.
 fn sailing(run: u16, leg: u16, from: u16, to: u16, dep: u16, arr: u16) -> Sailing {
     Sailing {
         run,
@@ -20,6 +21,7 @@ fn sailing(run: u16, leg: u16, from: u16, to: u16, dep: u16, arr: u16) -> Sailin
     }
 }
 
+// A short form for the cases below. Shared by the test crates, it would be a public function with a contract and an edit, and no plainer.
 fn query(from: u16, to: u16, minute: u16, class: u16) -> Query {
     Query {
         from,

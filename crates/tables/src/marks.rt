@@ -1,6 +1,7 @@
 //! A mark for each place of the largest book.
 ghost use Rattle.std.specs.Prelude.{◌≡◌, Bool, true, false, length, replicate, if◌then◌else◌, slice_index_or, slice_set};
 
+// All places have a mark, so no length stands beside them; memory is fixed, so that no thin fails for want of it.
 #[derive(Drop)]
 pub struct Marks {
     at: [bool; 3072],
