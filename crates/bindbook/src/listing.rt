@@ -69,7 +69,7 @@ pub(crate) fn list_book(rt: &HostRuntime, book: &Printed, bytes: usize) -> anyho
         list_quay(rt, book, quay)?;
     }
     for place in 0..places {
-        if let Ok(Some(sailing)) = book.place(place) {
+        if let Some(sailing) = book.sailing_at(place) {
             list_sailing(rt, place, sailing)?;
         }
     }

@@ -25,7 +25,8 @@ pub struct Board<B> {
     thinned: Thinned<Shutting<Withholding<B>>>,
 }
 
-// Marks hold only for the book in force in which they were made, so each accepted notice erases them.
+// Marks hold only for the book in force in which they were made, so each accepted notice erases them. (The four notices are three lines
+// each, which differ in the call below; one function over that call would be no plainer.)
 impl<B: Book> Board<B> {
     // A board over the opened book, before any call.
     pub fn new(opened: B) -> Self

@@ -2,7 +2,7 @@
 ghost use Rattle.std.specs.Prelude.{◌≡◌};
 ghost use Rattle.canalroute.specs.Texts.{refusal_text, notice_text, route_text, first_text, leg_text};
 
-use anyhow::{anyhow, bail};
+use anyhow::{Context, anyhow};
 use board::calls::Answer;
 use routing::found::Found;
 use std::io::Write;
@@ -86,9 +86,9 @@ pub(crate) fn print_answer<B: Book>(
     print_text(rt, first_text(answer))?;
     if let Answer::Told(Ok(Some(found))) = answer {
         for leg in legs.iter().take(found.legs as usize) {
-            let Some(sailing) = book.sailing_at(leg.place) else {
-                bail!("a leg of the journey is not in the book");
-            };
+            let sailing = book
+                .sailing_at(leg.place)
+                .context("a leg of the journey is not in the book")?;
             print_text(rt, leg_text(sailing, *leg))?;
         }
     }

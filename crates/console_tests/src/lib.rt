@@ -32,23 +32,23 @@ mod tests {
     // What the buffer holds before a call.
     const BEFORE: u8 = 9;
 
-    // The departure, or the code if that is not 0. The bytes that have to stand do.
-    fn ask(rt: &impl Abort, image: &[u8], quay: u16, minute: u16) -> Result<u32, u8> {
+    // The departure, or the code if that is not 0; none where a byte does not stand that has to.
+    fn ask(image: &[u8], quay: u16, minute: u16) -> Option<Result<u32, u8>> {
         let mut answer = [BEFORE; 6];
         let code = canal_next_departure(image, quay, minute, &mut answer);
         let [a, b, c, d, e, f] = answer;
-        assert_eq!(rt; [e, f], [BEFORE; 2]);
-        if code == 0 {
-            return Ok(u32::from_le_bytes([a, b, c, d]));
-        }
-        assert_eq!(rt; [a, b, c, d], [BEFORE; 4]);
-        Err(code)
+        let told = match code {
+            0 => Ok(u32::from_le_bytes([a, b, c, d])),
+            _ => Err(code),
+        };
+        let stand = [e, f] == [BEFORE; 2] && (told.is_ok() || [a, b, c, d] == [BEFORE; 4]);
+        stand.then_some(told)
     }
 
     // Each case is a quay, a minute and what is to be told.
     fn all(rt: &impl Abort, image: &[u8], cases: &[(u16, u16, Result<u32, u8>)]) {
         for &(quay, minute, told) in cases {
-            assert_eq!(rt; ask(rt, image, quay, minute), told);
+            assert_eq!(rt; ask(image, quay, minute), Some(told));
         }
     }
 
@@ -63,7 +63,7 @@ mod tests {
             if let Some(place) = changed.get_mut(at) {
                 *place = byte;
             }
-            assert_eq!(rt; ask(rt, &changed, 0, 0), told);
+            assert_eq!(rt; ask(&changed, 0, 0), Some(told));
         }
     }
 
@@ -175,10 +175,10 @@ mod tests {
     #[test]
     fn images_cut_off(rt: HostRuntime) {
         for end in 0..PRINTED.len() {
-            assert_eq!(rt; ask(&rt, &PRINTED[..end], 0, 0), Err(1));
+            assert_eq!(rt; ask(&PRINTED[..end], 0, 0), Some(Err(1)));
         }
         for end in 0..CLOCK_FACE.len() {
-            assert_eq!(rt; ask(&rt, &CLOCK_FACE[..end], 0, 0), Err(1));
+            assert_eq!(rt; ask(&CLOCK_FACE[..end], 0, 0), Some(Err(1)));
         }
     }
 

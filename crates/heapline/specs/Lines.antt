@@ -1,5 +1,6 @@
 -- What a heap line means, and how an item is put into its heap. Assumes nothing.
-use Rattle.std.specs.Prelude.{ℕ, ◌+◌, ◌*◌, ◌≤◌, List, length, Some, None, Option, Result}
+use Rattle.std.specs.Prelude.{◌≡◌, ℕ, ◌+◌, ◌*◌, ◌≤◌, List, length, Some, None, Option, Result, refl}
+use Rattle.arrayvec.specs.ArrayVec.{array_vec_len}
 use Rattle.timetable.specs.declared.refusal.Refusal.{Refusal}
 use Rattle.queue.specs.Lines.{most_items}
 use Rattle.heap.specs.Heaps.{AddsTo, ReplacesIn}
@@ -10,6 +11,9 @@ use Rattle.heapline.specs.Ranks.{rank_of_waiting}
 -- the keys
 abbrev pub keys_of : HeapLine → List (Option ℕ)
 keys_of h = h.keys.items
+
+pub line_size : (h : HeapLine) → length (keys_of h) ≡ array_vec_len h.keys
+line_size h = refl
 
 pub line_few : (h : HeapLine) → length (keys_of h) ≤ most_items
 line_few h = h.few

@@ -5,6 +5,7 @@ use crate::limits::{LAST_CLASS, LAST_MINUTE};
 use crate::refusal::Refusal;
 
 // What is asked of a route: from where, to where, from which minute of the day, with which class of cargo.
+// Each is a number as it is typed, so that one that there is not is refused in its turn and not cut off before.
 #[derive(Clone, Copy, PartialEq, Debug)]
 pub struct Query {
     pub from: u16,

@@ -1,5 +1,6 @@
 //! What can be done with a table of numbers.
-ghost use Rattle.std.specs.Prelude.{◌≡◌, List, [], ◌∷◌, ◌++◌, length, if◌then◌else◌, is_ok, nat_lt};
+ghost use Rattle.std.specs.Prelude.{◌≡◌, List, [], ◌∷◌, ◌++◌, length, if◌then◌else◌, is_ok, nat_lt, IfErr};
+ghost use Rattle.arrayvec.specs.CapacityError.{error_element};
 ghost use Rattle.tables.specs.Lists.{has, without};
 ghost use Rattle.tables.specs.Kept.{kept};
 
@@ -26,6 +27,7 @@ impl<const N: usize> Numbers<N> {
     pub fn push(&mut self, x: u16) -> Result<(), CapacityError<u16>>
         ensures room { is_ok result ≡ nat_lt (length (kept self.old)) N }
         ensures after { kept self.new ≡ (if is_ok result then kept self.old ++ (x ∷ []) else kept self.old) }
+        ensures handed_back { IfErr result (λ e. error_element e ≡ x) }
     {
         self.at.try_push(x)
     }
