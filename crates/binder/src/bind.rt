@@ -20,6 +20,7 @@ fn write_book(image: &mut [u8], quays: &[Quay], sailings: &[Sailing])
     put_rows(image, 16 * (1 + quays.len()), sailings);
 }
 
+// The same with the value alone: the theorems about it are those of the public call.
 fn bind_checked(quays: &[Quay], sailings: &[Sailing], image: &mut [u8]) -> Result<usize, Unbound>
     ensures value { result ≡ bound quays.now sailings.now (length image.old) }
     ensures buffer { image.new ≡ (if is_ok result then over (book_bytes quays.now sailings.now) image.old else image.old) }

@@ -40,6 +40,7 @@ fn change_byte(
 
 fn change_each_byte(rt: &impl Abort, bytes: &mut Vec<u8>) -> Result<Tally, Fail> {
     let mut tally = Tally::default();
+    // by its number: each byte is changed in place and the whole is judged
     for at in 0..bytes.len() {
         change_byte(rt, bytes, at, &mut tally)?;
     }

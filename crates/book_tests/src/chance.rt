@@ -69,6 +69,7 @@ impl Lots {
 
     fn quays(&mut self, heap: Global) -> Result<Vec<Quay>, AllocError> {
         let mut quays = Vec::new(heap);
+        // a draw can run out of memory and moves the lots, so a chain over both is no plainer, here and below
         for _ in 0..self.below(4).saturating_add(2) {
             quays.push(self.quay())?;
         }

@@ -133,6 +133,7 @@ fn expanded(heap: Global, all: &[Series]) -> Result<Vec<Sailing>, AllocError> {
     for s in all {
         let mut run = s.run;
         let mut dep = s.first;
+        // each member follows from the one before
         for _ in 0..s.count {
             let arr = dep.saturating_add(s.length) % 1440;
             sailings.push(Sailing {

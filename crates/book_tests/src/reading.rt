@@ -198,6 +198,7 @@ fn entries_end(
     };
     let mut before = Before { from: 0, places: 0 };
     let mut start = first;
+    // rows are counted, since records lie in bytes
     for row in 0..usize::from(entries) {
         let due = Due {
             bytes,

@@ -13,6 +13,7 @@ pub(crate) fn number(line: &[u8], at: usize) -> Result<Field<u16>, LineFault>
     number_field(line, at).ok_or(LineFault::NoNumber(at))
 }
 
+// (One line as above, with another reader and another fault: one function for both is no plainer.)
 pub(crate) fn time(line: &[u8], at: usize) -> Result<Field<u16>, LineFault>
     ensures { result ≡ time_here line.now at }
 {

@@ -26,6 +26,7 @@ fn departing(found: Option<Sailing>, quay: u16, minute: u16) -> Option<u32>
     }
 }
 
+// (Book, quay and minute go through three short functions; a struct of them is no plainer.)
 // The earliest departure of the sailings at the places of a span.
 fn earliest_at<B: Book>(book: &B, span: Span, quay: u16, minute: u16) -> Option<u32>
     ensures { result ≡ reduce min (filter_map (λ p. departure (place_at (B.meaning book.now) p) quay minute) (range_with_len span.start (span.end - span.start))) }

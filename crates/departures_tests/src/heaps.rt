@@ -8,14 +8,14 @@ fn departure(minute: u32, place: u16) -> Departure {
     Departure { place, minute }
 }
 
-// The minute and the place of what is taken; 0 and 0 if there is none.
-fn taken(heap: &mut DepartureHeap<'_>) -> (u32, u16) {
-    heap.take_least()
-        .map_or((0, 0), |least| (least.minute, least.place))
+// The minute and the place of what is taken.
+fn taken(heap: &mut DepartureHeap<'_>) -> Option<(u32, u16)> {
+    let least = heap.take_least()?;
+    Some((least.minute, least.place))
 }
 
 // Takes one after another.
-fn check_order(rt: &impl Abort, heap: &mut DepartureHeap<'_>, due: &[(u32, u16)]) {
+fn check_order(rt: &impl Abort, heap: &mut DepartureHeap<'_>, due: &[Option<(u32, u16)>]) {
     for is in due {
         assert_eq!(rt; taken(heap), *is);
     }
@@ -33,7 +33,13 @@ fn the_least_is_taken_first(rt: HostRuntime) {
     check_order(
         &rt,
         &mut heap,
-        &[(510, 9), (600, 2), (600, 3), (4294967295, 65535), (0, 0)],
+        &[
+            Some((510, 9)),
+            Some((600, 2)),
+            Some((600, 3)),
+            Some((4294967295, 65535)),
+            None,
+        ],
     );
 }
 
@@ -44,10 +50,10 @@ fn a_full_heap_refuses_and_a_freed_place_serves_again(rt: HostRuntime) {
     assert_eq!(rt; heap.add(departure(20, 1)), Ok(()));
     assert_eq!(rt; heap.add(departure(10, 1)), Ok(()));
     assert_eq!(rt; heap.add(departure(5, 1)), Err(Refusal::HeapFull));
-    check_order(&rt, &mut heap, &[(10, 1)]);
+    check_order(&rt, &mut heap, &[Some((10, 1))]);
     assert_eq!(rt; heap.add(departure(30, 1)), Ok(()));
     assert_eq!(rt; heap.add(departure(5, 1)), Err(Refusal::HeapFull));
-    check_order(&rt, &mut heap, &[(20, 1), (30, 1), (0, 0)]);
+    check_order(&rt, &mut heap, &[Some((20, 1)), Some((30, 1)), None]);
 }
 
 #[test]
@@ -63,5 +69,9 @@ fn one_of_a_rank_is_replaced(rt: HostRuntime) {
         Err(Refusal::NoRank)
     );
     assert_eq!(rt; heap.len(), 3);
-    check_order(&rt, &mut heap, &[(5, 2), (10, 1), (20, 1), (0, 0)]);
+    check_order(
+        &rt,
+        &mut heap,
+        &[Some((5, 2)), Some((10, 1)), Some((20, 1)), None],
+    );
 }

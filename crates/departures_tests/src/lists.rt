@@ -3,6 +3,7 @@ use books::printed::Printed;
 use departureheap::departure::Departure;
 use departures::list::list_departures;
 use std::process::Abort;
+use timetable::refusal::Refusal;
 
 // Four quays and six sailings: two from quay 0, three from quay 1, one from quay 2 and none from quay 3.
 static WORKED: [u8; 176] = *b"\x0e\x00\x01\x00\x04\x00\x06\x00\x00\x00\x00\x00\x00\x00\x00\x00\
@@ -38,8 +39,7 @@ const BLANK: Departure = Departure {
 
 const OLD: (u16, u32) = (999, 99999);
 
-// Added to the number of a refusal, which lies past every number of rows.
-const REFUSED: u16 = 10000;
+type Told = Result<u16, Refusal>;
 
 // How many rows there are, or why it is refused.
 fn told(
@@ -48,10 +48,8 @@ fn told(
     minute: u16,
     store: &mut [Departure],
     rows: &mut [Departure],
-) -> u16 {
-    list_departures(&Printed::open(image), quay, minute, store, rows).unwrap_or_else(
-        |refusal| REFUSED + u16::from(refusal.number()),
-    )
+) -> Told {
+    list_departures(&Printed::open(image), quay, minute, store, rows)
 }
 
 // The rows that were told for a quay from a minute.
@@ -69,7 +67,7 @@ fn check_rows(rt: &impl Abort, quay: u16, minute: u16, rows: &[Departure], due: 
 }
 
 // Each case is a quay, a minute, what is told, and what the rows then hold.
-fn check_lists(rt: &impl Abort, image: &[u8], cases: &[(u16, u16, u16, [(u16, u32); 6])]) {
+fn check_lists(rt: &impl Abort, image: &[u8], cases: &[(u16, u16, Told, [(u16, u32); 6])]) {
     for (quay, minute, due, filled) in cases {
         let mut store = [BLANK; 6];
         let mut rows = [BLANK; 6];
@@ -90,17 +88,37 @@ fn sailings_of_a_quay_are_listed(rt: HostRuntime) {
         &rt,
         &WORKED,
         &[
-            (1, 506, 3, [(4, 510), (3, 515), (2, 1945), OLD, OLD, OLD]),
+            (
+                1,
+                506,
+                Ok(3),
+                [(4, 510), (3, 515), (2, 1945), OLD, OLD, OLD],
+            ),
             // at a departure, and a minute later
-            (1, 510, 3, [(4, 510), (3, 515), (2, 1945), OLD, OLD, OLD]),
-            (1, 511, 3, [(3, 515), (2, 1945), (4, 1950), OLD, OLD, OLD]),
-            (1, 0, 3, [(2, 505), (4, 510), (3, 515), OLD, OLD, OLD]),
-            (1, 1439, 3, [(2, 1945), (4, 1950), (3, 1955), OLD, OLD, OLD]),
-            (0, 475, 2, [(0, 480), (1, 1910), OLD, OLD, OLD, OLD]),
-            (2, 1430, 1, [(5, 1430), OLD, OLD, OLD, OLD, OLD]),
-            (2, 1431, 1, [(5, 2870), OLD, OLD, OLD, OLD, OLD]),
+            (
+                1,
+                510,
+                Ok(3),
+                [(4, 510), (3, 515), (2, 1945), OLD, OLD, OLD],
+            ),
+            (
+                1,
+                511,
+                Ok(3),
+                [(3, 515), (2, 1945), (4, 1950), OLD, OLD, OLD],
+            ),
+            (1, 0, Ok(3), [(2, 505), (4, 510), (3, 515), OLD, OLD, OLD]),
+            (
+                1,
+                1439,
+                Ok(3),
+                [(2, 1945), (4, 1950), (3, 1955), OLD, OLD, OLD],
+            ),
+            (0, 475, Ok(2), [(0, 480), (1, 1910), OLD, OLD, OLD, OLD]),
+            (2, 1430, Ok(1), [(5, 1430), OLD, OLD, OLD, OLD, OLD]),
+            (2, 1431, Ok(1), [(5, 2870), OLD, OLD, OLD, OLD, OLD]),
             // none leaves quay 3
-            (3, 0, 0, [OLD, OLD, OLD, OLD, OLD, OLD]),
+            (3, 0, Ok(0), [OLD, OLD, OLD, OLD, OLD, OLD]),
         ],
     );
 }
@@ -111,8 +129,13 @@ fn sailings_of_one_minute_are_listed_by_place(rt: HostRuntime) {
         &rt,
         &ABREAST,
         &[
-            (1, 505, 3, [(2, 505), (3, 505), (4, 505), OLD, OLD, OLD]),
-            (1, 506, 3, [(2, 1945), (3, 1945), (4, 1945), OLD, OLD, OLD]),
+            (1, 505, Ok(3), [(2, 505), (3, 505), (4, 505), OLD, OLD, OLD]),
+            (
+                1,
+                506,
+                Ok(3),
+                [(2, 1945), (3, 1945), (4, 1945), OLD, OLD, OLD],
+            ),
         ],
     );
 }
@@ -124,10 +147,10 @@ fn the_first_cause_refuses_and_the_rows_stand(rt: HostRuntime) {
         &rt,
         &WORKED,
         &[
-            (4, 0, REFUSED + 11, none),
-            (65535, 65535, REFUSED + 11, none),
-            (3, 1440, REFUSED + 12, none),
-            (1, 65535, REFUSED + 12, none),
+            (4, 0, Err(Refusal::NoQuay), none),
+            (65535, 65535, Err(Refusal::NoQuay), none),
+            (3, 1440, Err(Refusal::LateMinute), none),
+            (1, 65535, Err(Refusal::LateMinute), none),
         ],
     );
 }
@@ -144,7 +167,7 @@ fn check_memory(
     store: &mut [Departure],
     rows: &mut [Departure],
     minute: u16,
-    due: u16,
+    due: Told,
 ) {
     assert_eq!(rt; told(&WORKED, 1, minute, store, rows), due);
     check_untouched(rt, store);
@@ -153,14 +176,32 @@ fn check_memory(
 
 #[test]
 fn a_row_is_wanted_for_each_place(rt: HostRuntime) {
-    check_memory(&rt, &mut [BLANK; 5], &mut [BLANK; 6], 506, REFUSED + 21);
-    check_memory(&rt, &mut [BLANK; 6], &mut [BLANK; 5], 506, REFUSED + 21);
-    check_memory(&rt, &mut [], &mut [], 506, REFUSED + 21);
-    check_memory(&rt, &mut [], &mut [BLANK; 6], 1440, REFUSED + 12);
+    check_memory(
+        &rt,
+        &mut [BLANK; 5],
+        &mut [BLANK; 6],
+        506,
+        Err(Refusal::ShortBuffer),
+    );
+    check_memory(
+        &rt,
+        &mut [BLANK; 6],
+        &mut [BLANK; 5],
+        506,
+        Err(Refusal::ShortBuffer),
+    );
+    check_memory(&rt, &mut [], &mut [], 506, Err(Refusal::ShortBuffer));
+    check_memory(
+        &rt,
+        &mut [],
+        &mut [BLANK; 6],
+        1440,
+        Err(Refusal::LateMinute),
+    );
 }
 
 #[test]
 fn what_is_no_image_has_one_quay_and_no_departures(rt: HostRuntime) {
-    assert_eq!(rt; told(&[], 0, 0, &mut [], &mut []), 0);
-    assert_eq!(rt; told(&[], 1, 0, &mut [], &mut []), REFUSED + 11);
+    assert_eq!(rt; told(&[], 0, 0, &mut [], &mut []), Ok(0));
+    assert_eq!(rt; told(&[], 1, 0, &mut [], &mut []), Err(Refusal::NoQuay));
 }

@@ -1,4 +1,5 @@
 use crate::quays::FourQuays;
+use cases::book::worked_sailings;
 use queue::line::Line;
 use queue::table::Table;
 use routing::found::Found;
@@ -31,18 +32,6 @@ fn query(from: u16, to: u16, minute: u16, class: u16) -> Query {
     }
 }
 
-// The sailings of the worked book.
-fn worked() -> [Sailing; 6] {
-    [
-        sailing(7, 0, 0, 1, 480, 500),
-        sailing(9, 0, 0, 1, 470, 490),
-        sailing(7, 1, 1, 2, 505, 540),
-        sailing(8, 0, 1, 2, 515, 530),
-        sailing(6, 0, 1, 2, 510, 540),
-        sailing(5, 0, 2, 3, 1430, 10),
-    ]
-}
-
 const NO_LEG: Leg = Leg {
     place: 99,
     leaves: 0,
@@ -62,7 +51,7 @@ fn journey(arrival: u32, legs: u16) -> Told {
 
 // The route through the worked book, with this change time at quay 1.
 fn routed(change: u16, asked: Query) -> Told {
-    let sailings = worked();
+    let sailings = worked_sailings();
     let book = FourQuays {
         changes: (5, change, 10, 5),
         sailings: &sailings,
@@ -80,7 +69,7 @@ fn routed(change: u16, asked: Query) -> Told {
 
 // The route with this many items in the line, and short buffers.
 fn lent(items: u16, labels: &mut [Label], legs: &mut [Leg], asked: Query) -> Told {
-    let sailings = worked();
+    let sailings = worked_sailings();
     let book = FourQuays {
         changes: (5, 30, 10, 5),
         sailings: &sailings,
@@ -161,7 +150,7 @@ fn legs_are_written(rt: HostRuntime) {
 // Items that wait from before, and labels of another route, change nothing.
 #[test]
 fn line_not_empty(rt: HostRuntime) {
-    let sailings = worked();
+    let sailings = worked_sailings();
     let book = FourQuays {
         changes: (5, 30, 10, 5),
         sailings: &sailings,

@@ -1,3 +1,4 @@
+use cases::book::worked_sailings;
 use routing_tests::quays::FourQuays;
 use std::process::Abort;
 use timetable::query::{Leg, Query};
@@ -38,15 +39,8 @@ fn leg(place: u16, leaves: u32, arrives: u32) -> Leg {
 
 // The sailings of the worked book, and one that is outside its limits, so that its place is blank.
 fn worked() -> [Sailing; 7] {
-    [
-        sailing(7, 0, 0, 1, 480, 500),
-        sailing(9, 0, 0, 1, 470, 490),
-        sailing(7, 1, 1, 2, 505, 540),
-        sailing(8, 0, 1, 2, 515, 530),
-        sailing(6, 0, 1, 2, 510, 540),
-        sailing(5, 0, 2, 3, 1430, 10),
-        sailing(4, 0, 0, 1, 1440, 10),
-    ]
+    let [a, b, c, d, e, f] = worked_sailings();
+    [a, b, c, d, e, f, sailing(4, 0, 0, 1, 1440, 10)]
 }
 
 type Said = Result<Verdict, Refusal>;
