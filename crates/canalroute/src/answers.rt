@@ -16,7 +16,8 @@ use typed::write::write_line;
 // No line of an answer is longer.
 const LONGEST_LINE: usize = 64;
 
-// Functions, and no `From`: answers, refusals and lines are all types of other crates.
+// Functions, and no `From`: answers, refusals and lines are all types of other crates. Of the five that of a refusal could stand in `typed`,
+// which would part it from the others and be no plainer.
 pub(crate) fn refusal_text(refusal: Refusal) -> Text
     ensures { result ≡ refusal_text refusal }
 {
