@@ -53,6 +53,8 @@ fn expected(case: Case) -> Option<Found> {
 #[test]
 fn routes_tell_the_worked_answers(rt: HostRuntime) {
     for case in worked_cases() {
+        // where nothing arrives, no leg is told and none is planned
+        assert!(rt; case.arrival.is_some() || case.plan.is_empty());
         assert_eq!(rt; told(case, false), Ok(expected(case)));
         assert_eq!(rt; told(case, true), Ok(expected(case)));
     }
