@@ -1,5 +1,5 @@
 //! The law over whole runs, used from the contracts of the board alone.
-ghost use Rattle.routing.specs.Route.{lent_in};
+ghost use Rattle.routing.specs.Route.{lent_in, SameRoom};
 ghost use Rattle.board_tests.specs.Without.{RoutedWithout};
 
 use board::board::Board;
@@ -17,7 +17,8 @@ fn without_run<B: Book + Drop, L: Line>(
     room: &mut Room<'_, L>,
     query: Query,
 ) -> Result<Option<Found>, Refusal>
-    ensures { RoutedWithout (B.meaning opened) run query (lent_in L.keys room.old) (lent_in L.keys room.new) result }
+    ensures law { RoutedWithout (B.meaning opened) run query (lent_in L.keys room.old) (lent_in L.keys room.new) result }
+    ensures same { SameRoom room.old room.new }
 {
     let mut board = Board::new(opened);
     let _ = board.withhold(run);

@@ -3,7 +3,7 @@ ghost use Rattle.std.specs.Prelude.{◌≡◌};
 ghost use Rattle.image.specs.Checks.{image_check};
 ghost use Rattle.image.specs.Images.{Tells};
 ghost use Rattle.image.specs.Faults.{Wrong, Told};
-ghost use Rattle.books.specs.Opened.{kind_told, LiesOver};
+ghost use Rattle.books.specs.Opened.{kind_told, LiesOver, OpensAs};
 ghost use Rattle.image.specs.declared.fault.Fault.{Fault};
 
 use crate::clock_face::ClockFace;
@@ -22,6 +22,7 @@ impl<'a> Opened<'a> {
     pub fn open(bytes: &'a [u8]) -> Result<Opened<'a>, Fault>
         ensures kind { kind_told result ≡ image_check bytes.now }
         ensures book { LiesOver bytes.now result }
+        ensures means { OpensAs bytes.now result }
         ensures exact { Tells bytes.now (kind_told result) }
         ensures first { (e : Fault) → Told (kind_told result) (Wrong bytes.now) e }
     {

@@ -121,6 +121,9 @@ impl<'a> Stepper<'a> {
         answers: &[Answer],
         tally: &mut Tally,
     ) -> anyhow::Result<()> {
+        if answers.len() < calls.len() {
+            bail!("call {}: no answer in the replay", answers.len());
+        }
         for (i, (call, replayed)) in calls.iter().zip(answers).enumerate() {
             tally.count(self.step(i, *call, *replayed)?);
         }

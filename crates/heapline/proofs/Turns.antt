@@ -32,10 +32,10 @@ module _ (ks : List (Option ℕ)) where
 
 module _ (h : HeapLine) where
   abbrev rows : List Waiting
-  rows = h.waiting.store
+  rows = h.waiting.heap.store
 
   abbrev count : ℕ
-  count = h.waiting.count
+  count = h.waiting.heap.count
 
   abbrev ws : List Waiting
   ws = take count rows
@@ -44,7 +44,7 @@ module _ (h : HeapLine) where
   keys = h.keys.items
 
   ws_long : length ws ≡ count
-  ws_long = length-take-le count rows h.waiting.within
+  ws_long = length-take-le count rows h.waiting.heap.within
 
   module _ (item key : ℕ) (small : item < length keys) where
     abbrev w : Waiting
@@ -55,7 +55,7 @@ module _ (h : HeapLine) where
     never_refused new m e = go (get_or keys item None) refl
       where
         go : (x : Option ℕ) → get_or keys item None ≡ x → Places rows count x w new m (Err e) → ⊥
-        go None is told = omega (arith, told.0, fewer_wait ws keys h.tallied item small is, ws_long, h.roomy, h.few)
+        go None is told = omega (arith, told.0, fewer_wait ws keys h.tallied item small is, ws_long, h.waiting.long, h.few)
         go (Some k) is told =
             let (j, a, r) = rank_there ws keys h.tallied item k w is in
             let lt : j < count = omega (arith, ws_long) in

@@ -18,7 +18,7 @@ impl HeapLine {
         ensures { keys_of result ≡ idle (size_for size) }
     {
         HeapLine {
-            waiting: WaitingHeap::new([Waiting { key: 0, item: 0 }; 3072]),
+            waiting: WaitingHeap::new(),
             keys: idle_keys(size),
         }
     }
@@ -57,8 +57,7 @@ impl Line for HeapLine {
 
 // Puts an item into the heap. Where it waits already, by this key, it takes its own place there.
 fn place(waiting: &mut WaitingHeap, before: Option<u32>, item: Waiting) -> Result<(), Refusal>
-    ensures size { length waiting.new.store ≡ length waiting.old.store }
-    ensures placed { Places waiting.old.store waiting.old.count before item waiting.new.store waiting.new.count result }
+    ensures { Places waiting.old.heap.store waiting.old.heap.count before item waiting.new.heap.store waiting.new.heap.count result }
 {
     match before {
         Some(key) => waiting.replace(rank_by(key, item.item), item),

@@ -12,7 +12,6 @@ pub struct HeapLine {
     pub(crate) waiting: WaitingHeap,
     pub(crate) keys: Keys,
     ghost few: { length keys.items ≤ most_items },
-    ghost roomy: { length waiting.store ≡ most_items },
     // the heap has each item once at most, with its key, and no other
-    ghost tallied: { Tallies (take waiting.count waiting.store) keys.items },
+    ghost tallied: { Tallies (take waiting.heap.count waiting.heap.store) keys.items },
 }

@@ -7,7 +7,8 @@ ghost use Rattle.thinning.specs.Thinning.{marked, Keeps};
 ghost use Rattle.thinning.specs.Weights.{row_outranks};
 
 use crate::standing::Standing;
-use crate::weighing::Weighed;
+use crate::weighing::{MOST_ROWS, Weighed, read, weigh};
+use arrayvec::ArrayVec;
 use tables::marks::Marks;
 use timetable::book::Book;
 
@@ -20,7 +21,7 @@ fn some_outranks(rows: &[Option<Standing>], q: Standing) -> bool
 impl<B: Book> Weighed<'_, B> {
     // Only what leaves the same quay can outrank q, so its span alone is looked through.
     fn is_dominated(&self, q: Standing) -> bool
-        requires { slice_index_or self.now.rows.items q.place None ≡ Some q }
+        requires { slice_index_or self.now.rows.now q.place None ≡ Some q }
         ensures { result ≡ dominated (B.Book.meaning self.now.book.now) q.place q.sailing }
     {
         let span = self.book.span_at(q.sailing.from);
@@ -29,7 +30,7 @@ impl<B: Book> Weighed<'_, B> {
 
     // Whether what stands at a place, as its row says, is dominated.
     fn is_to_mark(&self, place: usize, row: Option<Standing>) -> bool
-        requires { slice_index_or self.now.rows.items place None ≡ row }
+        requires { slice_index_or self.now.rows.now place None ≡ row }
         ensures { result ≡ mark_of (B.Book.meaning self.now.book.now) place }
     {
         // a match: a proof learns nothing of a closure that calls a method with a `requires`
@@ -59,7 +60,15 @@ fn mark_dominated<B: Book>(book: &B, marks: &mut Marks) -> u16
     ensures exact { (p : ℕ) → slice_index_or marks.new.at p false ≡ mark_of (B.Book.meaning book.now) p }
     ensures count { result ≡ dominated_in (B.Book.meaning book.now) }
 {
-    Weighed::of(book).mark(marks)
+    let mut places = ArrayVec::new();
+    read(book, &mut places);
+    let mut rows = [None; MOST_ROWS];
+    weigh(book, &places, &mut rows);
+    Weighed {
+        book,
+        rows: &rows[..places.len()],
+    }
+    .mark(marks)
 }
 
 // Marks the dominated sailings of a book and no other place, and tells how many they are. Whatever was marked before is forgotten.

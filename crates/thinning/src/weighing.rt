@@ -1,5 +1,5 @@
 //! What stands at each place of a book, weighed: a book may take long to answer, and each place is asked for once.
-ghost use Rattle.std.specs.Prelude.{◌≡◌, ◌<◌};
+ghost use Rattle.std.specs.Prelude.{◌≡◌, ◌<◌, [], length, take};
 ghost use Rattle.timetable.specs.Times.{continues, day};
 ghost use Rattle.thinning.specs.Margins.{some_passes, margin};
 ghost use Rattle.thinning.specs.Weights.{weight_of, standing_from, Weighs};
@@ -10,28 +10,20 @@ use timetable::book::Book;
 use timetable::limits::MOST_PLACES;
 use timetable::sailing::Sailing;
 
-const MOST_ROWS: usize = MOST_PLACES as usize;
-
-// A book, and what stands at each of its places, weighed.
-#[derive(Drop)]
-pub(crate) struct Weighed<'a, B: Book> {
-    pub(crate) book: &'a B,
-    pub(crate) rows: ArrayVec<Option<Standing>, MOST_ROWS>,
-    ghost each: { Weighs (B.Book.meaning book.now) rows.items },
-}
+pub(crate) const MOST_ROWS: usize = MOST_PLACES as usize;
 
 // The largest figure of a class of cargo.
 const MOST: u16 = 45;
 
 // A loop over numbers: a book is asked by the number of a place, and lends no row.
-fn read<B: Book>(book: &B) -> ArrayVec<Option<Sailing>, MOST_ROWS>
-    ensures { result.items ≡ (B.Book.meaning book.now).places }
+// The places are written where they lie, and so are the rows below: so many take long to move, which a small book pays too.
+pub(crate) fn read<B: Book>(book: &B, places: &mut ArrayVec<Option<Sailing>, MOST_ROWS>)
+    requires { places.old.items ≡ [] }
+    ensures { places.new.items ≡ (B.Book.meaning book.now).places }
 {
-    let mut places = ArrayVec::new();
     for place in 0..book.places() {
         places.push(book.sailing_at(place));
     }
-    places
 }
 
 // Whether s continues what stands at some place.
@@ -83,15 +75,22 @@ fn standing_of<B: Book>(
     })
 }
 
-impl<'a, B: Book> Weighed<'a, B> {
-    pub(crate) fn of(book: &'a B) -> Weighed<'a, B>
-        ensures { result.book.now ≡ book.now }
-    {
-        let places = read(book);
-        let mut rows = ArrayVec::new();
-        for (place, x) in places.iter().enumerate() {
-            rows.push(standing_of(book, &places, place as u16, *x));
-        }
-        Weighed { book, rows }
+// What stands at each place, weighed, in the first rows. A plain array lies under them: an `ArrayVec` of so many is written three times over when it is made.
+// A row is written by its number: of rows that `iter_mut` lends, a proof knows nothing afterwards.
+pub(crate) fn weigh<B: Book>(book: &B, places: &[Option<Sailing>], rows: &mut [Option<Standing>])
+    requires known { places.now ≡ (B.Book.meaning book.now).places }
+    requires many { length rows.old ≡ 3072 }
+    ensures { Weighs (B.Book.meaning book.now) (take (length places.now) rows.new) }
+{
+    for (place, x) in places.iter().enumerate() {
+        rows[place] = standing_of(book, places, place as u16, *x);
     }
+}
+
+// A book, and what stands at each of its places, weighed. The rows are lent.
+#[derive(Drop)]
+pub(crate) struct Weighed<'a, B: Book> {
+    pub(crate) book: &'a B,
+    pub(crate) rows: &'a [Option<Standing>],
+    ghost each: { Weighs (B.Book.meaning book.now) rows.now },
 }

@@ -33,18 +33,30 @@ impl<T: Drop> From<AllocFailed<T>> for Stop {
     }
 }
 
+// Reads the next line without its ending, and tells whether there is one. At the end of the input the line is left empty.
+// No split at byte 10: one buffer serves all lines of a long plan, where a `Vec` for each costs up to half as much again.
+fn next_line<R: BufRead>(input: &mut R, line: &mut Vec<u8>) -> io::Result<bool> {
+    line.clear();
+    let count = input.read_until(b'\n', line)?;
+    if line.last() == Some(&b'\n') {
+        let _ = line.pop();
+    }
+    Ok(count > 0)
+}
+
 // Vets the plan that follows its query. A query that is refused is told before a leg is read, and an empty input is one empty line.
 fn vet_input<B: Book>(rt: &HostRuntime, book: &B) -> Result<Verdict, Stop> {
-    let mut lines = BufReader::new(rt.alloc(), rt.stdin())?.split(rt.alloc(), b'\n');
-    let first = match lines.next() {
-        Some(line) => line?,
-        None => Vec::new(rt.alloc()),
-    };
-    let query = read_query(first.as_slice())?;
+    let mut input = BufReader::new(rt.alloc(), rt.stdin())?;
+    let mut line = Vec::new(rt.alloc());
+    let _ = next_line(&mut input, &mut line)?;
+    let query = read_query(line.as_slice())?;
     query.check(book.quays())?;
     let mut plan = Vec::new(rt.alloc());
-    for line in lines {
-        plan.push(read_leg(line?.as_slice())?)?;
+    for _ in 0..u64::MAX {
+        if !next_line(&mut input, &mut line)? {
+            break;
+        }
+        plan.push(read_leg(line.as_slice())?)?;
     }
     Ok(vet(book, query, plan.as_slice())?)
 }

@@ -2,8 +2,8 @@ use Rattle.routing.specs.Route.{lent_in}
 use Rattle.board_tests.proofs.Ones.{one}
 use Rattle.board_tests.proofs.uses.without_run.Goals as goal
 
-pub returns : goal.returns
-returns g c =
+pub returns-clause-law : goal.returns-clause-law
+returns-clause-law g c =
     one (g.B.Book.meaning c.args.opened) c.args.run c.args.query
     (lent_in g.L.Line.keys c.args.room.now)
     (lent_in g.L.Line.keys c.route.new.room)

@@ -12,6 +12,5 @@ invariant_of-result c =
     let keys = c.idle_keys.result.items in
     let none = c.idle_keys.ensures in record {
       few = omega (arith, ap length none, length-replicate {A = Option ℕ} n None, size_fits c.args.size);
-      roomy = ap length c.new.ensures.store;
-      tallied = subst (λ k. Tallies (take k c.new.result.store) keys) (sym c.new.ensures.count) (subst (Tallies []) (sym none) (turns.idle_tallies n));
+      tallied = subst (λ k. Tallies (take k c.new.result.heap.store) keys) (sym c.new.ensures.count) (subst (Tallies []) (sym none) (turns.idle_tallies n));
     }

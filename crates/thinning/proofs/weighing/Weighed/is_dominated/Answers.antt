@@ -1,7 +1,6 @@
-use Rattle.std.proofs.Common.{List, Option, ap, ◌∙◌}
+use Rattle.std.proofs.Common.{ap, ◌∙◌}
 use Rattle.std.specs.List.{list_any, slice_range}
 use Rattle.timetable.specs.declared.span.Span.{Span}
-use Rattle.thinning.specs.declared.standing.Standing.{Standing}
 use Rattle.thinning.specs.Weights.{row_outranks}
 use Rattle.thinning.proofs.Spans.{span_decides}
 use Rattle.thinning.proofs.weighing.Weighed.is_dominated.Goals as goal
@@ -11,6 +10,5 @@ returns g c =
     let x = c.args.self.now in
     let book = x.book.now in
     c.some_outranks.ensures
-    ∙ ap (λ (rows : List (Option Standing)). list_any (row_outranks c.args.q) (slice_range rows c.span_at-span.result.start c.span_at-span.result.end)) c.deref.ensures.0
-    ∙ ap (λ (s : Span). list_any (row_outranks c.args.q) (slice_range x.rows.items s.start s.end)) c.span_at-span.ensures
-    ∙ span_decides (g.B.Book.meaning book) (g.B.Book.lawful book) x.rows.items x.each c.args.q c.requires
+    ∙ ap (λ (s : Span). list_any (row_outranks c.args.q) (slice_range x.rows.now s.start s.end)) c.span_at-span.ensures
+    ∙ span_decides (g.B.Book.meaning book) (g.B.Book.lawful book) x.rows.now x.each c.args.q c.requires

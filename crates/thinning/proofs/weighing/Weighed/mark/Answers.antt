@@ -21,7 +21,7 @@ loop-place-preserved g c =
 pub returns : goal.returns
 returns g c =
     let t = g.B.Book.meaning c.args.self.now.book.now in
-    let e : c.loop-place.place ≡ length t.places = omega (arith, c.args.self.now.each.wide, ap length c.deref-row-items.ensures.0) in
+    let e : c.loop-place.place ≡ length t.places = omega (arith, c.args.self.now.each.wide) in
     record {
       exact = marking_ends (mark_of t) _ _ _ _ c.loop-place.invariant e (λ p h. ap (passes (dominated t p)) (get_or_past t.places p None h));
       count = c.loop-place.invariant.count ∙ ap (many (mark_of t)) e;
