@@ -1,5 +1,6 @@
 //! A heap of waiting items.
 ghost use Rattle.std.specs.Prelude.{◌≡◌, ◌≤◌, [], length, take, replicate};
+ghost use Rattle.std.specs.Iterator.{at_most};
 ghost use Rattle.queue.specs.Lines.{most_items};
 ghost use Rattle.heap.specs.Heaps.{AddsTo, TakesFrom, ReplacesIn};
 ghost use Rattle.heapline.specs.Ranks.{rank_of_waiting};
@@ -70,6 +71,19 @@ impl WaitingHeap {
         ensures rows { self.new.heap.store ≡ self.old.heap.store }
     {
         self.heap.clear();
+    }
+}
+
+// The items, one of least rank after another.
+impl Iterator for WaitingHeap {
+    type Item = Waiting;
+
+    ghost next_gives = { λ s r t. TakesFrom rank_of_waiting s.heap.store s.heap.count t.heap.store t.heap.count r };
+
+    ghost remaining = { λ s. at_most s.heap.count };
+
+    fn next(&mut self) -> Option<Waiting> {
+        self.take_least()
     }
 }
 
